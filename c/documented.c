@@ -4,11 +4,14 @@
 #include "checks.h"
 #include "hex.h"
 
+#include <stdio.h>
+
 uint8_t *encode_readings(const int64_t *readings, size_t count, size_t *length);
 int64_t greatest_reading(const uint8_t *in, size_t in_length, uint64_t *scale, uint32_t *status);
 uint64_t count_payload(const uint8_t *in, size_t in_length, uint32_t *status);
 uint32_t find_amount(const uint8_t *in, size_t in_length, struct naltvigo_item *value);
 uint32_t check_message(const uint8_t *in, size_t in_length);
+uint32_t check_stream(FILE *in, struct naltvigo_refusal *why);
 void explain_refusal(const uint8_t *in, size_t in_length, const struct naltvigo_refusal *why, char *text, size_t space);
 
 /* {1: h'0102', 2: [h'', h'030405']}, and 1,001 items. */
@@ -64,7 +67,24 @@ static void explains(void) {
     check(text[0] == 0, "explain_refusal", "no space");
 }
 
+/* 10,000 zeros in an array, and the same with another byte, cut off, or followed by a byte. */
+static void checks_stream(size_t length, size_t broken, uint32_t status, uint32_t reason, uint64_t at) {
+    static uint8_t bytes[10004];
+    struct naltvigo_refusal why = {0, 0, 0};
+    FILE *file = tmpfile();
+    memset(bytes, 0, sizeof bytes), memcpy(bytes, "\x99\x27\x10", 3);
+    if (broken) bytes[broken] = 0xff;
+    check(file && fwrite(bytes, 1, length, file) == length, "check_stream", "a file");
+    if (!file) return;
+    rewind(file);
+    check(check_stream(file, &why) == status && why.reason == reason && why.offset == at, "check_stream", "zeros");
+    fclose(file);
+}
+
 int main(void) {
+    checks_stream(10003, 0, NALTVIGO_OK, 0, 0), checks_stream(10004, 0, NALTVIGO_OK, 0, 0);
+    checks_stream(10002, 0, NALTVIGO_REFUSED, NALTVIGO_TRUNCATED, 10002);
+    checks_stream(10003, 9000, NALTVIGO_REFUSED, NALTVIGO_STRAY_BREAK, 9000);
     explains();
     static const int64_t readings[] = {-5, 1000};
     size_t n, length = 0;

@@ -208,6 +208,26 @@ static void all_items_in_a_table(void) {
     check(s == NALTVIGO_REFUSED && needed == 0 && are(why, NALTVIGO_INDEFINITE, 0, 1), "index", "refused");
 }
 
+/* [1], its first byte alone, and [_ 1, byte by byte. */
+static void an_item_in_parts(void) {
+    struct naltvigo_checker checker = {NULL};
+    size_t used = 9;
+    struct naltvigo_refusal why = none;
+    check(naltvigo_checker_new_raw(2, 0, 64, 100, &checker) == NALTVIGO_BAD_ORDER && !checker.memory, "checker", "order 2");
+    check(naltvigo_checker_new_raw(0, 0, 64, 100, &checker) == NALTVIGO_OK && checker.memory, "checker", "new");
+    check(naltvigo_checker_take_raw(&checker, array, 1, &used, &why) == NALTVIGO_MORE && used == 1, "checker", "the head");
+    check(naltvigo_checker_end_raw(&checker, &why) == NALTVIGO_REFUSED && are(why, NALTVIGO_TRUNCATED, 1, 1), "checker", "the end");
+    why = none;
+    check(naltvigo_checker_take_raw(&checker, array + 1, 1, &used, &why) == NALTVIGO_OK && used == 1, "checker", "the member");
+    check(naltvigo_checker_take_raw(&checker, array, 2, &used, &why) == NALTVIGO_OK && used == 0, "checker", "after the item");
+    check(naltvigo_checker_end_raw(&checker, &why) == NALTVIGO_OK && are(why, 0, 0, 0), "checker", "the end of the item");
+    check(naltvigo_checker_restart_raw(2, &checker) == NALTVIGO_BAD_ORDER, "checker", "restart in order 2");
+    check(naltvigo_checker_restart_raw(1, &checker) == NALTVIGO_OK, "checker", "restart");
+    check(naltvigo_checker_take_raw(&checker, streamed, 0, &used, &why) == NALTVIGO_MORE && used == 0, "checker", "no byte");
+    check(naltvigo_checker_take_raw(&checker, streamed, 2, &used, &why) == NALTVIGO_REFUSED && used == 1 && are(why, NALTVIGO_INDEFINITE, 0, 1), "checker", "[_");
+    check(naltvigo_checker_free_raw(&checker) == NALTVIGO_OK && !checker.memory, "checker", "free");
+}
+
 /* Maps with limits on depth and bytes, and why each is refused if keys must be integers and texts: by the kind of a key at its
  * first byte, unless that byte is not well-formed. */
 static const struct { const char *in; size_t length; uint32_t depth; uint64_t bytes; struct naltvigo_refusal why; } keys[] = {
@@ -226,7 +246,19 @@ static const struct { const char *in; size_t length; uint32_t depth; uint64_t by
 };
 
 /* The number of calls with kinds of keys; comparing counts as two of them, one for each side. */
-enum { CALLS = 8, COMPARED_WITH_0 = 5 };
+enum { CALLS = 9, COMPARED_WITH_0 = 5 };
+
+/* What a checker says of an input in parts of one byte. */
+static uint32_t byte_by_byte(const uint8_t *in, size_t n, uint32_t kinds, uint32_t depth, uint64_t bytes, struct naltvigo_refusal *why) {
+    struct naltvigo_checker checker;
+    size_t used, at;
+    uint32_t s = naltvigo_checker_new_raw(0, kinds, depth, bytes, &checker);
+    if (s != NALTVIGO_OK) return s;
+    for (s = NALTVIGO_MORE, at = 0; at < n && s == NALTVIGO_MORE; at++) s = naltvigo_checker_take_raw(&checker, in + at, 1, &used, why);
+    if (s == NALTVIGO_MORE) s = naltvigo_checker_end_raw(&checker, why);
+    naltvigo_checker_free_raw(&checker);
+    return s;
+}
 
 static uint32_t call(int which, const void *in, size_t n, uint32_t kinds, uint32_t depth, uint64_t bytes, struct naltvigo_refusal *why) {
     static const uint8_t zero = 0;
@@ -243,7 +275,8 @@ static uint32_t call(int which, const void *in, size_t n, uint32_t kinds, uint32
     case 4: return naltvigo_compare_raw(in, n, in, n, kinds, depth, bytes, &side, why);
     case COMPARED_WITH_0: return naltvigo_compare_raw(&zero, 1, in, n, kinds, depth, bytes, &side, why);
     case 6: return naltvigo_next_valid_raw(in, n, kinds, depth, bytes, &taken, why);
-    default: return naltvigo_next_canonical_raw(in, n, 0, kinds, depth, bytes, &taken, why);
+    case 7: return naltvigo_next_canonical_raw(in, n, 0, kinds, depth, bytes, &taken, why);
+    default: return byte_by_byte((const uint8_t *)in, n, kinds, depth, bytes, why);
     }
 }
 
@@ -288,6 +321,7 @@ int main(void) {
     text();
     names();
     items_of_a_sequence();
+    an_item_in_parts();
     heads();
     parts_of_items();
     values_of_items();

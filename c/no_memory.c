@@ -2,6 +2,7 @@
  * --wrap=malloc,realloc,free. */
 #include "options.h"
 
+#include <naltvigo_checker.h>
 #include <naltvigo_values.h>
 #include <stdio.h>
 #include <string.h>
@@ -126,6 +127,68 @@ static int refuse_each(const char *name, uint32_t (*call)(void), uint32_t status
     return bad;
 }
 
+/* {"aa..": {"bb..": 0, "cc..": 0}, "dd..": 0}, with keys of 200 bytes */
+static size_t nested(uint8_t *item) {
+    static const uint8_t heads[] = {0xa2, 'a', 0xa2, 'b', 0, 'c', 0, 'd', 0};
+    size_t length = 0, i;
+    for (i = 0; i < sizeof heads; i++) {
+        if (heads[i] < 'a' || heads[i] > 'd') {
+            item[length++] = heads[i];
+            continue;
+        }
+        item[length++] = 0x78, item[length++] = 200;
+        memset(item + length, heads[i], 200), length += 200;
+    }
+    return length;
+}
+
+/* The item in parts of this many bytes: the last status, and in `*used` all bytes that were used. */
+static uint32_t take_parts(struct naltvigo_checker *checker, const uint8_t *item, size_t length, size_t part, size_t *used) {
+    uint32_t status = NALTVIGO_MORE;
+    size_t now;
+    for (*used = 0; *used < length && status == NALTVIGO_MORE; *used += now)
+        status = naltvigo_checker_take(checker, item + *used, length - *used < part ? length - *used : part, &now, &why);
+    return status;
+}
+
+/* Whether a checker that refused memory for a byte that it used says so again, and goes on after a restart. */
+static int goes_on(struct naltvigo_checker *checker, const uint8_t *item, size_t length, size_t part, size_t used) {
+    const struct naltvigo_refusal first = why;
+    size_t now = 9;
+    int bad = first.reason != NALTVIGO_MEMORY || first.offset != first.consumed || first.consumed != used || used == 0;
+    bad |= naltvigo_checker_take(checker, item, length, &now, &why) != NALTVIGO_NO_MEMORY || now != 0;
+    bad |= naltvigo_checker_end(checker, &why) != NALTVIGO_NO_MEMORY || memcmp(&why, &first, sizeof why) != 0;
+    bad |= naltvigo_checker_restart(1, checker) != NALTVIGO_OK;
+    return bad | (take_parts(checker, item, length, part, &now) != NALTVIGO_OK || now != length);
+}
+
+/* A checker's own memory and that for its keys. */
+static int refuse_checker(const char *name, size_t part) {
+    static uint8_t item[1024];
+    const size_t length = nested(item);
+    int bad = 0, is_whole = 0;
+    long n, of_keys = 0;
+    taken = live = 0;
+    for (n = 1; !is_whole; n++) {
+        struct naltvigo_checker checker;
+        size_t used = 0;
+        uint32_t status;
+        memset(&why, 0, sizeof why);
+        left = n;
+        status = naltvigo_checker_new(OPTIONS(0, 256, 1000), &checker);
+        if (status == NALTVIGO_OK) status = take_parts(&checker, item, length, part, &used);
+        left = -1;
+        is_whole = status == NALTVIGO_OK && used == length;
+        bad |= !is_whole && status != NALTVIGO_NO_MEMORY;
+        if (checker.memory && !is_whole) of_keys++, bad |= goes_on(&checker, item, length, part, used);
+        naltvigo_checker_free(&checker);
+        bad |= live != 0 || checker.memory;
+    }
+    bad |= of_keys == 0 || of_keys > 40;
+    printf("%-16s %3ld requests, each refused in turn: %s\n", name, n - 2, bad ? "WRONG" : "as said, nothing is lost");
+    return bad;
+}
+
 int main(void) {
     int bad = refuse_each("canonicalise", canonicalise, NALTVIGO_OK);
     bad |= refuse_each("length first", length_first, NALTVIGO_OK);
@@ -135,6 +198,7 @@ int main(void) {
     bad |= refuse_each("diagnostic", diagnostic, NALTVIGO_OK);
     bad |= refuse_each("explain", explain, NALTVIGO_OK);
     bad |= refuse_each("finish", finish, NALTVIGO_OK);
+    bad |= refuse_checker("checker", 1000) | refuse_checker("checker by bytes", 1);
     bad |= refuse_each("open and get", look_up, NALTVIGO_OK) || taken != 0;
     bad |= refuse_each("check_canonical", check_canonical, NALTVIGO_REFUSED) || taken != 0;
     bad |= refuse_each("next_canonical", next_canonical, NALTVIGO_REFUSED) || taken != 0;

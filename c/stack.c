@@ -2,6 +2,7 @@
  * to the call. Prints the most in bytes, as Markdown, and fails if it is more than the header says. */
 #include "options.h"
 
+#include <naltvigo_checker.h>
 #include <stdio.h>
 #include <stdlib.h>
 #include <string.h>
@@ -13,12 +14,13 @@
 #endif
 
 /* The main thread has more on each system that this runs on; a call needs a sixteenth of this. */
-enum { PAINTED = 1 << 20, PAINT = 0xa5, CALLS = 11 };
+enum { PAINTED = 1 << 20, PAINT = 0xa5, CALLS = 12 };
 
 static uintptr_t lowest;
 
 static const char *const names[CALLS] = {"canonicalise", "check_canonical", "check_valid", "next_canonical",
-                                         "next_valid", "compare", "diagnostic", "index", "find", "explain", "machine_take"};
+                                         "next_valid", "compare", "diagnostic", "index", "find", "explain",
+                                         "machine_take", "checker_take"};
 static uint8_t in[16384], out[65536];
 static struct naltvigo_item items[16384];
 static size_t length;
@@ -33,6 +35,19 @@ static void events(void) {
     size_t used, reported, at = 0;
     naltvigo_machine_start(LIMITS(depth, 1 << 20), &machine);
     while (naltvigo_machine_take(&machine, in + at, length - at, &used, space, 4, &reported, &why) == NALTVIGO_EVENT) at += used;
+}
+
+/* All calls of a checker, which lies elsewhere too. */
+static void check_parts(void) {
+    static struct naltvigo_checker checker;
+    struct naltvigo_refusal why;
+    size_t used;
+    if (naltvigo_checker_new(OPTIONS(0, depth, 1 << 20), &checker) != NALTVIGO_OK) exit(2);
+    naltvigo_checker_take(&checker, in, length / 2, &used, &why);
+    naltvigo_checker_take(&checker, in + length / 2, length - length / 2, &used, &why);
+    naltvigo_checker_end(&checker, &why);
+    naltvigo_checker_restart(1, &checker);
+    naltvigo_checker_free(&checker);
 }
 
 /* The refusal of the item, or, if nothing is refused, its end. */
@@ -59,7 +74,8 @@ static void work(void) {
     case 7: naltvigo_index(in, length, OPTIONS(0, depth, 1 << 20), items, sizeof items / sizeof *items, &needed, &why); break;
     case 8: naltvigo_find(in, length, 0, (const uint8_t *)"\xf5", 1, &items[0]); break;
     case 9: explain(); break;
-    default: events();
+    case 10: events(); break;
+    default: check_parts();
     }
 }
 

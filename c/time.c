@@ -12,16 +12,17 @@
  * fair is measured again, next to what it is compared with. */
 #include "options.h"
 
+#include <naltvigo_checker.h>
 #include <naltvigo_values.h>
 #include <stdio.h>
 #include <stdlib.h>
 #include <string.h>
 #include <time.h>
 
-enum { MIB = 1 << 20, SPACE = 4 * MIB, CALLS = 11 };
+enum { MIB = 1 << 20, SPACE = 4 * MIB, CALLS = 12 };
 
 static const char *const names[CALLS] = {"check_valid", "canonicalise", "compare",         "diagnostic",     "explain",
-                                         "next_valid",  "machine_take", "check_canonical", "next_canonical", "index", "find"};
+                                         "next_valid",  "machine_take", "check_canonical", "next_canonical", "index", "find", "checker_take"};
 /* The first call that takes canonical bytes alone. */
 enum { CHECK = 0, CANONICAL = 7 };
 /* How many times as long as harmless bytes others may take. */
@@ -126,6 +127,17 @@ static void events(void) {
     while (naltvigo_machine_take(&machine, in + at, length - at, &used, space, 64, &reported, &why) == NALTVIGO_EVENT) at += used;
 }
 
+/* In small parts, so that a call that copies what it keeps takes too long. */
+static void check_parts(void) {
+    struct naltvigo_checker checker;
+    struct naltvigo_refusal why;
+    size_t used, at;
+    if (naltvigo_checker_new(ALL, &checker) != NALTVIGO_OK) exit(2);
+    for (at = 0; at < own_length; at += used)
+        if (naltvigo_checker_take(&checker, own + at, own_length - at < 64 ? own_length - at : 64, &used, &why) != NALTVIGO_MORE) break;
+    naltvigo_checker_free(&checker);
+}
+
 static void work(int call) {
     struct naltvigo_refusal why = {NALTVIGO_TRAILING, length, length};
     size_t needed;
@@ -141,7 +153,8 @@ static void work(int call) {
     case 7: naltvigo_check_canonical(own, own_length, ALL, &why); break;
     case 8: in_turn(1, own, own_length); break;
     case 9: naltvigo_index(own, own_length, ALL, items, SPACE, &needed, &why); break;
-    default: naltvigo_find(own, own_length, 0, (const uint8_t *)"\xf7", 1, &items[0]);
+    case 10: naltvigo_find(own, own_length, 0, (const uint8_t *)"\xf7", 1, &items[0]); break;
+    default: check_parts();
     }
 }
 

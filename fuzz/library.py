@@ -6,7 +6,7 @@ import os
 from expected import expect
 from reference import Refusal
 
-OK, REFUSED, TOO_SMALL, DIFFERENT = 0, 1, 2, 6
+OK, REFUSED, TOO_SMALL, DIFFERENT, MORE = 0, 1, 2, 6, 8
 
 
 class Why(ctypes.Structure):
@@ -70,6 +70,24 @@ class Library:
 
     def next_canonical(self, given, order, limits):
         return self.next(self.calls.naltvigo_next_canonical_raw, given, ctypes.c_uint32(order), *self.words(limits))
+
+    def in_parts(self, parts, order, limits):
+        """What a checker says of an item in parts: as next_canonical of the whole."""
+        calls, checker, why, used, length = self.calls, ctypes.c_void_p(), Why(), ctypes.c_size_t(9), 0
+        status = calls.naltvigo_checker_new_raw(ctypes.c_uint32(order), *self.words(limits), ctypes.byref(checker))
+        expect("status of a new checker", OK, status)
+        for it in parts:
+            status = calls.naltvigo_checker_take_raw(ctypes.byref(checker), it, ctypes.c_size_t(len(it)), ctypes.byref(used), ctypes.byref(why))
+            length += used.value
+            if status != MORE:
+                break
+            expect("bytes used of a part", len(it), used.value)
+        expect("status at the end", REFUSED if status == MORE else status, calls.naltvigo_checker_end_raw(ctypes.byref(checker), ctypes.byref(why)))
+        calls.naltvigo_checker_free_raw(ctypes.byref(checker))
+        if status == OK:
+            return length
+        expect("bytes used of what is refused", why.consumed, length)
+        return why.refusal()
 
     def compare(self, left, right, limits):
         why, side = Why(), ctypes.c_uint32(9)

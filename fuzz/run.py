@@ -5,13 +5,13 @@
                 [--readers crates/fuzz_readers/out/fuzz_readers] [--seconds 10] [--seed 1] [--every 1]
 
 Each input goes through the calls that must agree on it: canonicalise, in both orders, and once more on its result;
-check_canonical, check_valid, compare, diagnostic. With the program every tenth goes through show, events, canon, compare,
-and check and check --strict over a sequence, and each row of the tables through canon, check and check --strict; with
-the readers each goes through read_tree and then encode, read_strict, StrictReader call by call with what it requests from its
-reader, and Sequence, over readers that return 1, 2, 3 or 4096 bytes a read, and through read_view, its tree and then
-encode. One half is read for keys of any kind, the other for integers and texts. First come the rows of the conformance
-tables, whose results were worked out by hand, and large maps out of order (large.py). With --every N only every Nth row goes
-through the program, for one that starts slowly; the seed says which. The first disagreement is reported
+check_canonical, check_valid, compare, diagnostic; and a checker, in parts that are cut at random. With the program every tenth
+goes through show, events, canon, compare, and check and check --strict over a sequence, and each row of the tables through
+canon, check and check --strict; with the readers each goes through read_tree and then encode, read_strict, StrictReader call by
+call with what it requests from its reader, and Sequence, over readers that return 1, 2, 3 or 4096 bytes a read, and through
+read_view, its tree and then encode. One half is read for keys of any kind, the other for integers and texts. First come the rows
+of the conformance tables, whose results were worked out by hand, and large maps out of order (large.py). With --every N only
+every Nth row goes through the program, for one that starts slowly; the seed says which. The first disagreement is reported
 with its input and the seed, and the status is 1. The run ends after the given seconds, and at least 100 inputs; a seed always
 gives the same inputs.
 """
@@ -115,6 +115,14 @@ def line(refusal, before=""):
     return f"{before}refused {refusal.reason} {REASONS[refusal.reason]} at {refusal.place}\n".encode()
 
 
+def parts_of(given, seed):
+    """The bytes cut at random, also into parts of none, or into single bytes."""
+    chance, places = random.Random(given + bytes([seed])), range(len(given) + 1)
+    count = chance.choice([0, 1, 2, 3, 8, len(given)])
+    cuts = sorted(chance.choices(places, k=count)) if count < len(given) else places
+    return [given[start:end] for start, end in zip([0, *cuts], [*cuts, len(given)], strict=True)]
+
+
 def try_library(library, results, space):
     given, limits = results.given, results.limits
     for order in (BYTEWISE, LENGTH_FIRST):
@@ -126,6 +134,7 @@ def try_library(library, results, space):
         expect(f"unchanged if canonical, order {order}", strict is None, found == given)
         first = results.strict[order] or results.size
         expect(f"next_canonical, order {order}", first, library.next_canonical(given, order, limits))
+        expect(f"a checker, order {order}", first, library.in_parts(parts_of(given, order), order, limits))
         if isinstance(found, bytes):
             expect(f"canonicalise once more, order {order}", found, library.canonicalise(found, order, limits, len(found)))
     plain = results.whole(results.plain)

@@ -33,6 +33,7 @@
  *    canonical bytes, with the statuses 10 to 13.
  *  - New: naltvigo_writer_*_raw, which put the parts of items, and naltvigo_get_*_raw, which read the values of items.
  *  - New: naltvigo_explain, the sentences and the path of a refusal as text.
+ *  - New: naltvigo_checker_*_raw, the strict check of an item that arrives in parts.
  *  - `refusal` may be null in the inline functions, except in naltvigo_explain.
  *  - The fields of a refusal, an event and an item are named `offset`, `consumed` and `entries`.
  *
@@ -47,12 +48,13 @@
  *    called there. (The calls that allocate no memory may be made there. They are listed below.)
  *
  * Ownership
- *  - The library keeps no pointer after a call and returns none: there is nothing to free.
+ *  - The library keeps no pointer after a call. Only a checker (naltvigo_checker.h) is the library's memory, and is freed by
+ *    its own call.
  *
  * Memory
- *  - Memory comes from the program's malloc, realloc and free. A call frees all of it before it returns. It allocates at most
- *    an amount in proportion to the bytes of its input: a length in a head allocates nothing. docs/PERFORMANCE.md has
- *    figures.
+ *  - Memory comes from the program's malloc, realloc and free. A call frees all of it before it returns, except for what a
+ *    checker keeps. It allocates at most an amount in proportion to the bytes of its input: a length in a head allocates
+ *    nothing. docs/PERFORMANCE.md has figures.
  *  - naltvigo_check_canonical, naltvigo_next_canonical, naltvigo_index, naltvigo_item_at, naltvigo_find,
  *    naltvigo_put_head, naltvigo_reason_name, naltvigo_writer_*_raw, naltvigo_get_*_raw and the calls of a machine allocate
  *    no memory. Their signatures in Rattle show this: no parameter is an allocator.
@@ -113,7 +115,8 @@ enum {
     NALTVIGO_OK = 0,         /* the result is in `out`; the input is accepted; the two inputs have the same value */
     NALTVIGO_REFUSED = 1,    /* an input is refused; `*refusal` says why and where */
     NALTVIGO_TOO_SMALL = 2,  /* the result has `*needed` bytes, more than `out` has; `out` is unchanged */
-    NALTVIGO_NO_MEMORY = 3,  /* out of memory; the offset in `*refusal` is 0 (but see naltvigo_diagnostic) */
+    NALTVIGO_NO_MEMORY = 3,  /* out of memory; the offset in `*refusal` is 0 (but see naltvigo_diagnostic and
+                              * naltvigo_checker_take) */
     NALTVIGO_BAD_ORDER = 4,  /* `order` is neither of the two orders */
     NALTVIGO_BAD_LIMITS = 5, /* `depth` or `bytes` is out of range, or `keys` is neither of the two kinds */
     NALTVIGO_DIFFERENT = 6,  /* the two inputs have different values */
@@ -247,6 +250,12 @@ struct naltvigo_item {
     uint32_t entries; /* in a table of naltvigo_index: the number of entries for this item and all items in it; else 0 */
 };
 
+/* The checker of an item that arrives in parts: a handle of the library's memory. naltvigo_checker_new_raw sets it, and it is
+ * valid until naltvigo_checker_free_raw. Only the calls of a checker read or write it, and a copy of it is not passed to them. */
+struct naltvigo_checker {
+    void *memory;
+};
+
 /* The bytes of stack that a call needs at most. */
 #define NALTVIGO_STACK 65536
 
@@ -323,6 +332,19 @@ uint32_t naltvigo_get_string_raw(const struct naltvigo_item *item, uint32_t foun
                                  uint64_t *start, size_t *length, uint32_t status);
 uint32_t naltvigo_get_encoded_raw(const struct naltvigo_item *item, uint32_t found, uint64_t *start,
                                   size_t *length, uint32_t status);
+
+/*
+ * The exports of the checker of an item that arrives in parts: naltvigo_checker.h calls them, and says what they do.
+ *
+ * Each but the first needs a handle that naltvigo_checker_new_raw set, and that was not freed.
+ */
+uint32_t naltvigo_checker_new_raw(uint32_t order, uint32_t keys, uint32_t depth, uint64_t bytes,
+                                  struct naltvigo_checker *checker);
+uint32_t naltvigo_checker_restart_raw(uint32_t order, struct naltvigo_checker *checker);
+uint32_t naltvigo_checker_take_raw(struct naltvigo_checker *checker, const uint8_t *in, size_t in_length,
+                                   size_t *used, struct naltvigo_refusal *refusal);
+uint32_t naltvigo_checker_end_raw(struct naltvigo_checker *checker, struct naltvigo_refusal *refusal);
+uint32_t naltvigo_checker_free_raw(struct naltvigo_checker *checker);
 
 /*
  * naltvigo_canonicalise: the canonical bytes of an item (RFC 8949, section 4.2).

@@ -33,7 +33,7 @@ function(test_program name words)
   endforeach()
 endfunction()
 
-foreach(name test null exports explained items writer cursor machine)
+foreach(name test null exports explained items writer cursor checker machine)
   test_program(${name} "")
 endforeach()
 foreach(name round_trips damaged)

@@ -32,6 +32,7 @@ ROWS = [
     ("cborc check --order ", {"bytewise", "length", "length-first"}),
     ("cborc show --keys ", {"any", "basic"}),
     ("cborc show re", {"records.cbor"}),
+    ("cborc check one.cbor re", {"records.cbor"}),
 ]
 
 # For bash only: a name with a space, and a word with its value, which bash splits.

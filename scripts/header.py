@@ -28,6 +28,8 @@ TYPES = {
     "&mut NaltvigoRefusal": ["struct naltvigo_refusal *"],
     "&mut [NaltvigoEvent]": ["struct naltvigo_event *", "size_t"],
     "&mut SavedMachine": ["struct naltvigo_machine *"],
+    "&mut Checker": ["struct naltvigo_checker *"],
+    "*mut u8": ["void *"],
     "&PlacedItem": ["const struct naltvigo_item *"],
     "&mut PlacedItem": ["struct naltvigo_item *"],
     "&mut [PlacedItem]": ["struct naltvigo_item *", "size_t"],
@@ -46,6 +48,7 @@ STRUCTS = {
     "naltvigo_event": (CRATE / "streaming.rt", "NaltvigoEvent"),
     "naltvigo_item": (ROOT / "crates" / "cbor_cursor" / "src" / "placed.rt", "PlacedItem"),
     "naltvigo_machine": (ROOT / "crates" / "cbor_machine" / "src" / "machine" / "saved.rt", "SavedMachine"),
+    "naltvigo_checker": (ROOT / "crates" / "cbor_checker" / "src" / "checker.rt", "Checker"),
 }
 
 
@@ -103,12 +106,13 @@ def exports_of_header(text):
 def struct_of_crate(name):
     path, of_crate = STRUCTS[name]
     body = re.search(r"pub struct %s \{(.*?)\n\}" % of_crate, path.read_text(), re.S)[1]
-    return [(FIELDS.get(field, field), TYPES[kind][0]) for field, kind in re.findall(r"pub (\w+): ([^,]+),", body)]
+    fields = re.findall(r"(?m)^    (?:pub )?(\w+): ([^,{}]+),$", body)
+    return [(FIELDS.get(field, field), kind_in_c) for field, kind in fields for kind_in_c in TYPES[kind][:1]]
 
 
 def struct_of_header(name, text):
     body = re.search(r"struct %s \{(.*?)\};" % name, text, re.S)[1]
-    found = re.findall(r"([\w ]+?) (\w+)(\[\w+\])?;", body)
+    found = re.findall(r"([\w ]+? \*?)(\w+)(\[\w+\])?;", body)
     return [(field, kind.strip() + (size or "")) for kind, field, size in found]
 
 
@@ -139,7 +143,8 @@ RUST_TYPES = {
     "*mut usize": "size_t *",
     "[u64; DEPTH_MAX]": "uint64_t[NALTVIGO_DEPTH_MAX]",
     "[u8; DEPTH_MAX]": "uint8_t[NALTVIGO_DEPTH_MAX]",
-    **{f"*mut {name.title()}": f"struct naltvigo_{name} *" for name in ("refusal", "event", "item", "machine")},
+    "*mut c_void": "void *",
+    **{f"*mut {name.title()}": f"struct naltvigo_{name} *" for name in ("refusal", "event", "item", "machine", "checker")},
 }
 
 # A parameter whose name is a keyword of Rust.
@@ -168,6 +173,8 @@ def differences_in_rust(rust, text):
             yield f"raw.rs has {name} {found}, the header {header.get(name)}"
     for name in STRUCTS:
         fields = re.search(r"#\[repr\(C\)\]\n[^{}]*pub struct %s \{(.*?)\n\}" % name.removeprefix("naltvigo_").title(), rust, re.S)
+        if not fields and f"*mut {name.removeprefix('naltvigo_').title()}" not in rust:
+            continue  # no export there uses it
         found = [(it, kind) for kind, it in in_c(fields[1])] if fields else None
         if found != struct_of_header(name, text):
             yield f"raw.rs has the fields {found} of {name}, the header {struct_of_header(name, text)}"

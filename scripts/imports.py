@@ -9,7 +9,8 @@ import os
 import re
 import sys
 
-from sources import CRATES, ROOT, short, split_names
+from sources import CRATES, ROOT, split_names
+from written import write_or_compare
 
 WIDTH, FEW = 160, 2
 IMPORT = re.compile(r"^use (Rattle\.[^\s{]+)\.\{(.*)\}$")
@@ -84,17 +85,9 @@ def laid_out(text, rank):
 
 
 def main():
-    rank, odd = ranks(), []
-    for path in sorted(CRATES.glob("*/specs/**/*.antt")) + sorted(CRATES.glob("*/proofs/**/*.antt")):
-        text = path.read_text()
-        new = laid_out(text, rank)
-        if new != text and "--check" in sys.argv:
-            odd.append(path)
-        elif new != text:
-            path.write_text(new)
-    for path in odd:
-        print(f"imports: {short(path)} is laid out otherwise: scripts/imports.py")
-    return 1 if odd else 0
+    rank = ranks()
+    paths = [*CRATES.glob("*/specs/**/*.antt"), *CRATES.glob("*/proofs/**/*.antt")]
+    return write_or_compare({path: laid_out(path.read_text(), rank) for path in sorted(paths)})
 
 
 if __name__ == "__main__":

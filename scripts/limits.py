@@ -21,8 +21,8 @@ DECLARED = {
     "default depth of the library": ("include/naltvigo.h", "= {UINT64_C(1) << 20, NUMBER, NALTVIGO_BYTEWISE"),
     "default exponent of bytes": ("include/naltvigo.h", "= {UINT64_C(1) << NUMBER, "),
     "default depth of the program": ("crates/cborc_words/src/cli.rt", '.default_value("NUMBER")'),
-    "depth in databases": ("bindings/sqlite/calls.h", "CBOR_DEPTH = NUMBER,"),
-    "exponent of bytes in databases": ("bindings/sqlite/calls.h", "CBOR_BYTES = 1 << NUMBER }"),
+    "depth in databases": ("bindings/sql/rules.h", "CBOR_DEPTH = NUMBER,"),
+    "exponent of bytes in databases": ("bindings/sql/rules.h", "CBOR_BYTES = 1 << NUMBER }"),
     "first simple value that does not exist": ("crates/cbor_head/src/simple.rt", "if number < NUMBER ||"),
     "first simple value in two bytes": ("crates/cbor_head/src/simple.rt", "|| number >= NUMBER {"),
 }
@@ -103,14 +103,12 @@ STATED = {
         ("web/index.html", 'max="1024" value="NUMBER"'),
     ],
     "depth in databases": [
-        ("bindings/postgresql/calls.h", "CBOR_DEPTH = NUMBER,"),
         ("bindings/sqlite/README.md", "may have at most NUMBER levels"),
         ("bindings/postgresql/README.md", "may have at most NUMBER levels"),
         ("docs/DECISIONS.md", "fixed limits (NUMBER levels"),
         ("README.md", "fixed limits: NUMBER levels and"),
     ],
     "exponent of bytes in databases": [
-        ("bindings/postgresql/calls.h", "CBOR_BYTES = 1 << NUMBER"),
         ("bindings/sqlite/README.md", "levels and 2^NUMBER bytes"),
         ("bindings/postgresql/README.md", "levels and 2^NUMBER bytes"),
         ("docs/DECISIONS.md", "(256 levels, 2^NUMBER"),

@@ -11,9 +11,8 @@
 import re
 import subprocess
 import sys
-from pathlib import Path
 
-ROOT = Path(__file__).resolve().parent.parent
+from written import ROOT, write_or_compare
 
 
 def table(text, function):
@@ -87,17 +86,8 @@ def main():
         for file in replace(*sys.argv[1:]):
             print(file)
         sys.argv[1:] = []
-    stale = []
-    rust_file, go_file = "bindings/rust/src/reason.rs", "bindings/go/reasons.go"
-    for file, text in ((rust_file, rust()), (go_file, go()), ("share/cborc.1", manual())):
-        path = ROOT / file
-        if "--check" not in sys.argv:
-            path.write_text(text, encoding="utf-8")
-        elif not path.exists() or path.read_text(encoding="utf-8") != text:
-            stale.append(file)
-    for file in stale:
-        print(f"{file} is not what scripts/reasons.py writes")
-    return 1 if stale else 0
+    texts = {"bindings/rust/src/reason.rs": rust(), "bindings/go/reasons.go": go(), "share/cborc.1": manual()}
+    return write_or_compare({ROOT / file: text for file, text in texts.items()})
 
 
 if __name__ == "__main__":

@@ -45,6 +45,8 @@ def words():
         faults.append("keys of no such kinds: status 2 wanted")
     if run(["compare", "-", "-"]).returncode != 2:
         faults.append("standard input twice: status 2 wanted")
+    if run(["check", "-", "a", "-"]).returncode != 2:
+        faults.append("standard input among several files twice: status 2 wanted")
     for word in (b"x\xff", b"a" * 5000 + b"\xff"):
         expect("a word that is not UTF-8", run(["check", "-", word, b"\xff"]), 2, b"", b"argument 3 is not UTF-8; to read a file of such a name, use '- < FILE'\n")
     version = run(["--version"])
@@ -104,6 +106,7 @@ def files():
     expect("no such file", run(["check", "absent"]), 3, b"", b"cannot read absent\n")
     expect("a path with a line feed", run(["check", "a\nb"]), 3, b"", b"cannot read a\\u000ab\n")
     expect("no such folder", run(["canon", "-", "absent/out"], b"\x00"), 3, b"", b"cannot write absent/out\n")
+    several_files()
     path = write("item", b"\x18\x00")
     os.chmod(path, 0o640)
     os.symlink("item", os.path.join(FOLDER, "link"))
@@ -129,6 +132,25 @@ def files():
     holds("item", b"\x80", here)
     expect("a new file", run(["canon", "-", "new"], b"\x00"), 0)
     holds("new", b"\x00", here + ["new"])
+
+
+def several_files():
+    paths = [write("one", b"\x18\x00"), write("two\n", b"\xff")]
+    accepted = b"one: accepted 2 bytes\n-: accepted 1 bytes\n"
+    refused = b"two\\u000a: refused 7 StrayBreak at 0\n"
+    expect("several files", run(["check", "one", "-"], b"\x00"), 0, accepted)
+    expect("one of several files refused", run(["check", "one", "two\n", "-"], b"\x00"), 1, accepted, refused)
+    expect("several files, quietly", run(["check", "--quiet", "two\n", "absent", "one"]), 3)
+    # Verdicts and messages to one file are in the order of the files.
+    words = [PROGRAM, "check", "two\n", "one", "absent", "one"]
+    ended = subprocess.run(words, cwd=FOLDER, stdout=subprocess.PIPE, stderr=subprocess.STDOUT)
+    line = b"one: accepted 2 bytes\n"
+    expect("several files, in order", ended, 3, refused + line + b"absent: cannot read absent\n" + line)
+    with open("/dev/full", "wb") as full:
+        ended = subprocess.run([PROGRAM, "check", "--explain", "one", "one"], cwd=FOLDER, stdout=full, stderr=subprocess.PIPE)
+    expect("several files to a full device", ended, 3, None, b"cannot write standard output\n  Standard output is closed or full.\n")
+    for path in paths:
+        os.remove(path)
 
 
 def sequences():

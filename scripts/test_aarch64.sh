@@ -56,8 +56,8 @@ run() { # WHAT SOURCE WORD ..
         *) say "$1: $(tail -1 <<<"$out")" ;;
     esac
 }
-# each with its arguments: of the random items of the last two only some, since qemu takes its time
-for it in test: null: items: writer: cursor: 'round_trips:1 300' 'damaged:1 300'; do
+# each with its arguments: of the rows and random items of the last three only some, since qemu takes its time
+for it in test: null: items: writer: cursor: checker:5 'round_trips:1 300' 'damaged:1 300'; do
     # shellcheck disable=SC2206
     arguments=(${it#*:})
     run "${it%%:*}, archive" "${it%%:*}.c" "$archive"

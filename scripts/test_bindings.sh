@@ -37,6 +37,7 @@ test_rust() {
     cp "$root/scripts/lib/debian_crates.toml" "$CARGO_HOME/config.toml"
     cd "$root/bindings/rust"
     cargo test --offline -q >"$scratch/log" 2>&1 || { cat "$scratch/log"; fail 'tests in Rust'; }
+    cargo check --offline -q --no-default-features 2>"$scratch/log" || { cat "$scratch/log"; fail 'the crate in Rust without std'; }
     say "Rust: $(sed -n 's/^test result: ok. \([0-9]*\) passed.*/\1/p' "$scratch/log" | awk '{ sum += $1 } END { print sum }') tests"
     canonical=$(printf '\277\143Fun\365\143Amt!\377' | cargo run --offline -q --example canonicalise | od -An -tx1 | tr -d ' \n')
     [ "$canonical" = a263416d74216346756ef5 ] || fail 'the example in Rust'

@@ -59,6 +59,7 @@ done
 # ---- the headers, in each dialect
 
 cat >"$scratch/headers.c" <<'C'
+#include <naltvigo_checker.h>
 #include <naltvigo_values.h>
 #if NALTVIGO_VERSION_NUMBER < 0x20000
 #error the version is older than 2
@@ -101,7 +102,7 @@ run() {
 }
 
 # The programs whose tests run in each of these ways.
-tests=(test exports explained null items writer cursor round_trips damaged)
+tests=(test exports explained null items writer cursor checker round_trips damaged)
 for cc in "${compilers[@]}"; do
     sanitizes=
     ! echo 'int main(void) { return 0; }' | $cc -x c - -fsanitize=address,undefined -o "$scratch/t" 2>/dev/null || sanitizes=yes
@@ -120,8 +121,8 @@ for cc in "${compilers[@]}"; do
 done
 cc=$CC
 if have valgrind; then
-    # of the random items of the last two only some
-    for it in test: exports: explained: null: items: writer: cursor: 'round_trips:1 200' 'damaged:1 200'; do
+    # of the rows and random items of the last three only some
+    for it in test: exports: explained: null: items: writer: cursor: checker:20 'round_trips:1 200' 'damaged:1 200'; do
         "$cc" "${flags[@]}" -g -O1 "$c/${it%%:*}.c" "$dist/lib/libnaltvigo.a" -o "$scratch/t"
         # shellcheck disable=SC2086
         run "${it%%:*}, valgrind" valgrind -q --leak-check=full --error-exitcode=9 "$scratch/t" ${it#*:}
@@ -129,7 +130,7 @@ if have valgrind; then
 fi
 "$cc" "${flags[@]}" -g -O1 "$c/values.c" "$dist/lib/libnaltvigo.a" -o "$scratch/t"
 run values python3 "$root/fuzz/languages.py" --inputs 500 "C=$scratch/t"
-run 'planted bugs' python3 "$c/planted.py" "$dist"
+PREFIX=$(realpath "$dist") run 'planted bugs' python3 "$root/scripts/test_planted.py" --all c
 "$cc" "${flags[@]}" -g "$c/machine.c" "$dist/lib/libnaltvigo.a" -o "$scratch/t"
 run 'a machine' "$scratch/t"
 if have valgrind; then

@@ -60,7 +60,7 @@ test_sqlite() {
     command -v sqlite3 >/dev/null || lacks='its shell, sqlite3'
     [ -n "$python" ] || lacks='a Python that loads extensions, python3'
     [ -z "$lacks" ] || { missing+=("SQLite ($lacks)"); return; }
-    cp -r "$root/bindings/sqlite" "$scratch/sqlite"
+    cp -r "$root"/bindings/{sql,sqlite} "$scratch"
     cd "$scratch/sqlite"
     quietly 'the build for SQLite' python3 "$root/scripts/run_readme.py" sh README.md
     quietly "the README for SQLite" python3 "$root/scripts/run_readme.py" sql README.md sqlite3 :memory:
@@ -71,14 +71,6 @@ test_sqlite() {
     is_hardened naltvigo_sqlite.so
     [ "$(nm -D --defined-only naltvigo_sqlite.so | awk '{ print $3 }')" = sqlite3_naltvigosqlite_init ] || fail 'what naltvigo_sqlite.so exports'
     PYTHON=$python try_planted sqlite
-}
-
-# Whether an extension was built with the flags against overruns.
-is_hardened() { # FILE
-    # grep reads to the end, so that no pipe breaks
-    readelf -Wl "$1" | grep GNU_RELRO >/dev/null && readelf -Wd "$1" | grep BIND_NOW >/dev/null || fail "$1 has no full RELRO"
-    nm -D -u "$1" | grep __stack_chk_fail >/dev/null || fail "$1 has no stack protector"
-    [ "$(uname -m)" != x86_64 ] || objdump -d "$1" | grep endbr64 >/dev/null || fail "$1 has no -fcf-protection"
 }
 
 # Bugs planted in an extension, a few in each run: the tests above fail.
@@ -95,7 +87,7 @@ test_postgresql() {
     lacks=$(lacks_postgresql "$pg_config")
     [ -z "$lacks" ] || { missing+=("PostgreSQL ($lacks)"); return; }
     start_server "$pg_config"
-    cp -r "$root/bindings/postgresql" "$scratch/postgresql"
+    cp -r "$root"/bindings/{sql,postgresql} "$scratch"
     cd "$scratch/postgresql"
     # the build, the installation below the server's own tree, and the tests of pg_regress
     DESTDIR=$tree PG_CONFIG=$pg_config quietly 'the build and the tests for PostgreSQL' python3 "$root/scripts/run_readme.py" sh README.md

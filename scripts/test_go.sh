@@ -33,7 +33,7 @@ if echo 'package main; func main() {}' >"$scratch/race.go" && go build -race -o 
 else
     missing+=("Go's race detector")
 fi
-for target in FuzzCalls FuzzValues FuzzReader; do
+for target in FuzzCalls FuzzValues FuzzReader FuzzChecker; do
     run $target go test -run '^$' -fuzz "^$target\$" -fuzztime "${FUZZ:-5}s" .
     say "$target: $(grep -o 'execs: [0-9]*' "$scratch/log" | tail -1)"
 done

@@ -3,13 +3,14 @@
 
     scripts/test_planted.py [--check] [--all] BINDING [NAME ..]
 
-BINDING is a folder of bindings/ with a folder planted/, whose files NAME.edit have the form of edit_files.py. Without a
-NAME a few are tried, by the number of commits, so that the gate tries each of them in turn. --check only checks that the
-texts are there. For Rust NALTVIGO_LIB names the library, for SQLite PREFIX its installation and PYTHON a Python that loads
-extensions, for PostgreSQL PREFIX, and DESTDIR, PG_CONFIG and PGHOST the server (scripts/test_databases.sh).
+BINDING is c, the headers for C, or rust, sqlite or postgresql. Its bugs are files NAME.edit in folders planted/, in the form
+of edit_files.py. Without a NAME a few are tried, by the number of commits, so that the gate tries each of them in turn.
+--check only checks that the texts are there. PREFIX is where the library is installed, for Rust NALTVIGO_LIB. For SQLite
+PYTHON is a Python that loads extensions; for PostgreSQL DESTDIR, PG_CONFIG and PGHOST are those of the server
+(scripts/test_databases.sh).
 
 A line `tests:` before the first file of an edit names the tests that find it; else they are all but those of time. For Rust
-it is a file of tests/ and one of its tests, for SQLite a class and its test, for PostgreSQL `time`.
+it is a file of tests/ and one of its tests, for databases `time`.
 """
 
 import os
@@ -25,10 +26,25 @@ from pathlib import Path
 import edit_files
 
 ROOT = Path(__file__).resolve().parent.parent
+# The folder whose tests are run, and the one next to it that it needs. Both may have bugs; the paths in them begin in the first.
+FOLDERS = {
+    "c": ["c", "include"],
+    "rust": ["bindings/rust"],
+    "sqlite": ["bindings/sqlite", "bindings/sql"],
+    "postgresql": ["bindings/postgresql", "bindings/sql"],
+}
 A_TURN = 3
+# those that compare no times, and read no table of rows by each call
+RUST_TESTS = ["calls", "checker", "checker_io", "items", "maps", "reader", "refused_memory", "room", "thresholds", "values"]
 MEMORY = 4 << 30
 
 LIBRARY = f"NALTVIGO={os.environ.get('PREFIX', '')}"
+ROWS = "python3 rows.py ../crates/cbor_reader_tests/src/tests/*_table.rt >rows.h"
+# A bug that does not compile is not found.
+HEADERS = """for name in cursor writer round_trips damaged checker; do
+    ${CC:-cc} -O1 -w -I../include $name.c "$PREFIX/lib/libnaltvigo.a" -o test || exit 0
+    ./test 1 2000 || exit 1
+done"""
 # A database of its own. If a client is ended here, what the server does for it ends too.
 TIMES = """set -e; PGDATABASE=template1 psql -qc "CREATE DATABASE planted_$$"; export PGDATABASE=planted_$$
 PGOPTIONS='-c client_connection_check_interval=1s' psql -Xq -v ON_ERROR_STOP=1 -f test/time.sql"""
@@ -36,12 +52,15 @@ PGOPTIONS='-c client_connection_check_interval=1s' psql -Xq -v ON_ERROR_STOP=1 -
 
 def commands(binding, tests):
     """What builds a binding and what tests it, in a copy of its folder. `tests` are the names of some, or None."""
+    if binding == "c":
+        return ["sh", "-c", ROWS], ["sh", "-c", HEADERS]
     if binding == "rust":
-        names = tests[:1] if tests else ["calls", "items", "maps", "reader", "room", "thresholds", "values"]
+        names = tests[:1] if tests else RUST_TESTS
         run = ["cargo", "test", "--offline", "-q", *(f"--test={it}" for it in names)]
         return [*run, "--no-run"], [*run, *(tests or [])[1:]]
     if binding == "sqlite":
-        return ["make", "-s", LIBRARY], [os.environ.get("PYTHON", "python3"), "test_sqlite.py", *(tests or ["Tests", "Tables"])]
+        names = ["Time.test_a_mebibyte_of_chosen_keys"] if tests == ["time"] else ["Tests", "Tables"]
+        return ["make", "-s", LIBRARY], [os.environ.get("PYTHON", "python3"), "test_sqlite.py", *names]
     return ["make", "-s", LIBRARY, "all", "install"], ["sh", "-c", TIMES] if tests == ["time"] else ["make", "-s", LIBRARY, "installcheck"]
 
 
@@ -88,11 +107,12 @@ def outcome(binding, folder, scratch, tests, seconds):
     return "fails" if status else "passes", time.monotonic() - begin
 
 
-def copied(folder, scratch, edit):
+def copied(folders, scratch, edit):
     """A copy of a binding, with what it reads of the repository, and with an edit if there is one."""
-    copy = scratch / "bindings" / folder.name
-    shutil.rmtree(copy, ignore_errors=True)
-    shutil.copytree(folder, copy, ignore=shutil.ignore_patterns("target", "planted", "*.so", "*.o"))
+    for it in folders:
+        shutil.rmtree(scratch / it, ignore_errors=True)
+        shutil.copytree(ROOT / it, scratch / it, ignore=shutil.ignore_patterns("target", "planted", "*.so", "*.o"))
+    copy = scratch / folders[0]
     if not (scratch / "crates").exists():
         for it in ("crates", "portable"):
             (scratch / it).symlink_to(ROOT / it)
@@ -105,11 +125,11 @@ def copied(folder, scratch, edit):
 def main(words):
     options = [it for it in words if it.startswith("--")]
     binding, *names = [it for it in words if not it.startswith("--")] or [""]
-    folder = ROOT / "bindings" / binding
-    if binding not in ("rust", "sqlite", "postgresql") or set(options) - {"--check", "--all"}:
+    if binding not in FOLDERS or set(options) - {"--check", "--all"}:
         sys.exit(__doc__)
-    edits = sorted((folder / "planted").glob("*.edit"))
-    found = [why for edit in edits if (why := applied(folder, edit)[1])]
+    folders = FOLDERS[binding]
+    edits = [edit for it in folders for edit in sorted((ROOT / it / "planted").glob("*.edit"))]
+    found = [why for edit in edits if (why := applied(ROOT / folders[0], edit)[1])]
     if found or "--check" in options:
         print("\n".join(found) or f"planted: {binding}: the texts of {len(edits)} bugs are there")
         return 1 if found or not edits else 0
@@ -120,7 +140,7 @@ def main(words):
             tests = tests_of(edit)
             # first without a bug; with one, they may take a few times as long
             for it in [edit] if str(tests) in limits else [None, edit]:
-                result, seconds = outcome(binding, copied(folder, Path(scratch), it), scratch, tests, limits.get(str(tests), 3600))
+                result, seconds = outcome(binding, copied(folders, Path(scratch), it), scratch, tests, limits.get(str(tests), 3600))
                 print(f"planted: {binding}: {it.stem if it else 'nothing'}: {result}, {seconds:.0f} s", flush=True)
                 missed += result != ("fails" if it else "passes")
                 limits.setdefault(str(tests), 30 + 3 * seconds)

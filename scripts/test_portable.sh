@@ -65,7 +65,7 @@ compile() { # SOURCE WORD ..
 
 # The programs of c/ with the archive, as each target runs them. Those of `brief` are for a second assembler of the same files.
 test_library() { # all|brief
-    local it archive=$out/libnaltvigo.a ran='' tests=(test null exports explained items writer cursor machine)
+    local it archive=$out/libnaltvigo.a ran='' tests=(test null exports explained items writer cursor checker machine)
     [ "$1" = all ] || tests=(test cursor machine)
     for it in "${tests[@]}"; do
         compile "$it.c" "$archive"

@@ -57,17 +57,8 @@ greatest=$(objdump -T "$extension" | sed -n 's/.*GLIBC_\([0-9.]*\)).*/\1/p' | so
 tagged=$(sed -n 's/.*manylinux_\([0-9]*\)_\([0-9]*\)_.*/\1.\2/p' <<<"$wheel")
 [ "$(printf '%s\n' "$greatest" "$tagged" | sort -V | tail -1)" = "$tagged" ] || fail "$wheel needs glibc $greatest"
 [ "$(objdump -p "$extension" | awk '/NEEDED/ { print $2 }')" = libc.so.6 ] || fail 'the extension needs more than the C library'
-# it is hardened: the stack, copies of known sizes, a table of addresses that does not change, and where jumps may lead
-symbols=$(objdump -T "$extension") headers=$(readelf -dlW "$extension")
-for name in __stack_chk_fail __memcpy_chk; do
-    grep -q "$name" <<<"$symbols" || fail "the extension is not hardened: no $name"
-done
-grep -q GNU_RELRO <<<"$headers" && grep -q BIND_NOW <<<"$headers" || fail 'the extension is not hardened: no RELRO'
-! grep -q 'GNU_STACK.* RWE ' <<<"$headers" || fail 'the extension has a stack that can be executed'
-if [ "$(uname -m)" = x86_64 ]; then
-    code=$(objdump -d "$extension")
-    grep -q endbr64 <<<"$code" || fail 'the extension is not hardened: no endbr64'
-fi
+is_hardened "$extension"
+nm -D -u "$extension" | grep __memcpy_chk >/dev/null || fail 'copies of known sizes are not checked'
 
 # a Python without the interpreter's lock is refused
 ! "${CC:-cc}" -DPy_GIL_DISABLED -I"$folder" -I"$dist/include" -fsyntax-only "$package/src/native/module.c" 2>"$scratch/log" || fail 'a build without the lock'
@@ -99,7 +90,10 @@ if "$checker" -m mypy --version >/dev/null 2>&1; then
     try 'types of what is installed' env MYPYPATH="$scratch/site" "$checker" -m mypy --strict "$package/tests/typed_use.py"
     "$python" -c 'import doctest, sys; print(doctest.script_from_examples(open(sys.argv[1]).read()))' "$package/README.md" >"$scratch/readme.py"
     try 'types of the README' env MYPYPATH="$scratch/site" "$checker" -m mypy --strict "$scratch/readme.py"
-    try 'stubs of the extension' env PYTHONPATH="$scratch/site" MYPYPATH="$scratch/site" "$checker" -m mypy.stubtest naltvigo._native
+    # of a type whose options all have names stubtest reads no signature
+    echo naltvigo._native.Checker.__init__ >"$scratch/allowed"
+    try 'stubs of the extension' env PYTHONPATH="$scratch/site" MYPYPATH="$scratch/site" "$checker" -m mypy.stubtest naltvigo._native \
+        --allowlist "$scratch/allowed" --ignore-unused-allowlist
     say 'the types hold, for mypy --strict and for the extension as it is'
 else
     missing+=(mypy)
@@ -119,7 +113,7 @@ if [ -e "$runtime" ] && CFLAGS=$sanitizers build "$scratch/watched" >"$scratch/l
     watched=(env LD_PRELOAD="$runtime" ASAN_OPTIONS=detect_leaks=0 PYTHONMALLOC=malloc PYTHONPATH="$scratch/watched" "$python")
     try 'random inputs under sanitizers' "${watched[@]}" "$package/tests/fuzz_values.py" 15000 7
     say "under sanitizers: $(cat "$scratch/log")"
-    for tests in appendix files frozen hostile sequences thresholds values; do
+    for tests in appendix check_stream checker files frozen hostile sequences thresholds values; do
         try 'tests under sanitizers' "${watched[@]}" -m unittest discover "$package/tests" -p "test_$tests.py"
         say "under sanitizers: $tests, $(sed -n 's/^\(Ran [0-9]* tests\).*/\1/p' "$scratch/log")"
     done

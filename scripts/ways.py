@@ -14,6 +14,7 @@ import sys
 
 import proved
 from proved import CRATES, ROOT, after_partner, crates
+from written import write_or_compare
 
 # An item, also of a trait that only its crate sees.
 ITEM = re.compile(proved.ITEM.pattern.replace("pub trait", r"pub(?:\(\w+\))? trait"), re.M)
@@ -213,12 +214,7 @@ def main():
     before, _, rest = text.partition(BEGIN)
     _, _, after = rest.partition(END)
     made = before + "\n".join(lines) + "\n\n" + END + after
-    if "--check" not in sys.argv:
-        path.write_text(made, encoding="utf-8")
-    elif made != text:
-        print("the table of calls in docs/ARCHITECTURE.md is out of date: run scripts/ways.py")
-        return 1
-    return 0
+    return write_or_compare({path: made})
 
 
 if __name__ == "__main__":

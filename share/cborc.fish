@@ -10,7 +10,7 @@ complete -c cborc -n "$first" -l version -s V -d 'Print the version'
 for when in "$first" "$helped"
     complete -c cborc -n "$when" -a show -d 'Write the diagnostic text of an item, or of each item of a sequence'
     complete -c cborc -n "$when" -a events -d 'Write a line for each event of an item, or of each item of a sequence'
-    complete -c cborc -n "$when" -a check -d 'Check that a file is one valid item, or a sequence'
+    complete -c cborc -n "$when" -a check -d 'Check that each file is one valid item, or a sequence'
     complete -c cborc -n "$when" -a canon -d 'Write the canonical bytes of an item, or of each item of a sequence'
     complete -c cborc -n "$when" -a compare -d 'Report whether two items have the same value'
 end

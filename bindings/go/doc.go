@@ -10,9 +10,9 @@
 //	}
 //
 // A Value is made in Go, or decoded from any encoding by Unmarshal, and encoded by Marshal. An Item reads from canonical
-// bytes where they are. A Reader splits a stream into its items.
+// bytes where they are. A Reader splits a stream into its items, and a Checker checks one item as it arrives.
 //
 // The calls on bytes, the look-ups of an Item and the table of items that values are decoded from are proved; the rest of
 // this package is tested. The package calls the library by cgo, so it needs a C compiler. All calls may be made from any
-// number of goroutines at once.
+// number of goroutines at once, except for those of one Reader or Checker.
 package naltvigo

@@ -84,6 +84,8 @@ var (
 	ErrWrongKind = errors.New("naltvigo: an item of another kind")
 	// ErrOutOfRange says that an integer does not fit its type.
 	ErrOutOfRange = errors.New("naltvigo: the integer does not fit the type")
+	// ErrClosed says that a Checker is closed.
+	ErrClosed = errors.New("naltvigo: the checker is closed")
 )
 
 // outcome is the error of a call that may refuse its input.
@@ -107,6 +109,8 @@ func failure(status C.uint32_t) error {
 		return ErrNotThere
 	case C.NALTVIGO_WRONG_KIND:
 		return ErrWrongKind
+	case C.NALTVIGO_BAD_MACHINE:
+		return ErrClosed
 	}
 	return fmt.Errorf("naltvigo: status %d", uint32(status))
 }

@@ -137,3 +137,29 @@ func ExampleReader() {
 	// 1800
 	// 63616263
 }
+
+func ExampleChecker() {
+	checker, err := naltvigo.NewChecker(nil)
+	if err != nil {
+		log.Fatal(err)
+	}
+	defer checker.Close()
+	// {"b": 2, "a": .., in two parts: the item is refused before it ends
+	for _, part := range []string{"\xa2\x61b\x02", "\x61a"} {
+		if _, err := io.WriteString(checker, part); err != nil {
+			fmt.Println(err)
+		}
+	}
+	// Output:
+	// naltvigo: refused 16 KeyOrder at 4: This key does not sort after the key before it.
+}
+
+func ExampleCheckReader() {
+	var stored strings.Builder
+	// {"a": 1}
+	received := io.TeeReader(strings.NewReader("\xa1\x61a\x01"), &stored)
+	size, err := naltvigo.CheckReader(received, nil)
+	fmt.Printf("%d %v %x\n", size, err, stored.String())
+	// Output:
+	// 4 <nil> a1616101
+}

@@ -97,3 +97,35 @@ func FuzzReader(f *testing.F) {
 		}
 	})
 }
+
+// What a checker says after each part is what CheckCanonical says of all bytes so far.
+func FuzzChecker(f *testing.F) {
+	for _, seed := range []string{"", "\x00", "\xa2\x61a\x00\x61b\x82\x01\x02", "\xa2\x61b\x00\x61a\x00", "\xf9\x3e\x00",
+		"\xa1\xa1\x81\x00\xc1\x40\x00", "\x82\x18\x64\x18\x00", "\x62\xc3\xa4\x00", "\x61\xff"} {
+		f.Add([]byte(seed), uint16(3), uint16(5))
+	}
+	f.Fuzz(func(t *testing.T, input []byte, one, other uint16) {
+		if len(input) > 1000 {
+			return
+		}
+		for _, order := range []Order{Bytewise, LengthFirst} {
+			options := DefaultOptions()
+			options.Order = order
+			prefixes := saidOfPrefixes(input, &options)
+			checker, err := NewChecker(&options)
+			if err != nil {
+				t.Fatal(err)
+			}
+			cut := int(one) % (len(input) + 1)
+			next := cut + int(other)%(len(input)-cut+1)
+			inParts(t, checker, input, []int{cut, next, len(input)}, prefixes)
+			checker.Restart()
+			each := make([]int, len(input)+1)
+			for end := range each {
+				each[end] = end
+			}
+			inParts(t, checker, input, each, prefixes)
+			checker.Close()
+		}
+	})
+}

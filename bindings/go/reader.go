@@ -17,9 +17,10 @@ type Reader struct {
 	from      io.Reader
 	options   Options
 	canonical bool
-	buffer    []byte // what was read, and not returned
-	offset    uint64 // of the buffer's first byte
-	machine   *cutMachine
+	buffer    []byte   // what was read, and not returned
+	offset    uint64   // of the buffer's first byte
+	cut       cutItem  // of an item that is not all there
+	checker   *Checker // of items in their canonical bytes
 	ended     bool
 	pending   error // of a read that brought bytes too
 	failed    error
@@ -30,7 +31,8 @@ func NewReader(from io.Reader, options *Options) *Reader {
 	return &Reader{from: from, options: given(options)}
 }
 
-// NewCanonicalReader returns a reader of items in their canonical bytes.
+// NewCanonicalReader returns a reader of items in their canonical bytes. An item that is not canonical is refused at the
+// first wrong byte, without a further read.
 func NewCanonicalReader(from io.Reader, options *Options) *Reader {
 	return &Reader{from: from, options: given(options), canonical: true}
 }
@@ -60,7 +62,7 @@ func (reader *Reader) Next() ([]byte, error) {
 
 // front returns the item at the front of the buffer. It is not ok where more bytes are needed, or the item is refused.
 func (reader *Reader) front() ([]byte, bool) {
-	if len(reader.buffer) == 0 || (!reader.ended && reader.machine != nil && reader.machine.isCut(reader.buffer)) {
+	if len(reader.buffer) == 0 || (!reader.ended && reader.cut != nil && reader.cut.isCut(reader.buffer)) {
 		return nil, false
 	}
 	next := NextValid
@@ -72,9 +74,7 @@ func (reader *Reader) front() ([]byte, bool) {
 	switch {
 	case err == nil:
 	case !reader.ended && errors.As(err, &refused) && refused.Reason == Truncated:
-		if reader.machine == nil {
-			reader.machine, reader.failed = newCutMachine(&reader.options)
-		}
+		reader.failed = reader.beginCut()
 		return nil, false
 	default:
 		reader.failed = err
@@ -83,8 +83,27 @@ func (reader *Reader) front() ([]byte, bool) {
 	item := append(make([]byte, 0, size), reader.buffer[:size]...)
 	reader.buffer = reader.buffer[size:]
 	reader.offset += uint64(size)
-	reader.machine = nil
+	reader.cut = nil
 	return item, true
+}
+
+// beginCut makes what takes the bytes of the next item as they come.
+func (reader *Reader) beginCut() (err error) {
+	switch {
+	case reader.cut != nil:
+		return ErrMemory // what took the bytes had none for a key
+	case !reader.canonical:
+		reader.cut, err = newCutMachine(&reader.options)
+		return err
+	case reader.checker == nil:
+		if reader.checker, err = NewChecker(&reader.options); err != nil {
+			return err
+		}
+	default:
+		reader.checker.Restart()
+	}
+	reader.cut = cutChecker{reader.checker}
+	return nil
 }
 
 // read appends what one read brings.
@@ -114,7 +133,21 @@ func (reader *Reader) read() error {
 	return io.ErrNoProgress
 }
 
-// cutMachine finds out whether an item is complete, and takes each byte once.
+// cutItem takes each byte of an item once.
+type cutItem interface {
+	// isCut reports whether more bytes must follow these, of which it took some before.
+	isCut(item []byte) bool
+}
+
+// cutChecker finds out whether an item is complete, or not canonical.
+type cutChecker struct{ *Checker }
+
+func (cut cutChecker) isCut(item []byte) bool {
+	_, err := cut.Take(item[cut.Consumed():])
+	return err == nil && !cut.Complete()
+}
+
+// cutMachine finds out whether an item is complete, or not well-formed.
 type cutMachine struct {
 	machine C.struct_naltvigo_machine
 	events  [256]C.struct_naltvigo_event
@@ -127,7 +160,6 @@ func newCutMachine(options *Options) (*cutMachine, error) {
 	return cut, failure(C.naltvigo_machine_start(&with, &cut.machine))
 }
 
-// isCut reports whether more bytes must follow these, of which it took some before.
 func (cut *cutMachine) isCut(item []byte) bool {
 	for {
 		var used, reported C.size_t

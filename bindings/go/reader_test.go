@@ -75,6 +75,38 @@ func TestReaderRefuses(t *testing.T) {
 	}
 }
 
+// An item that is not canonical is refused at the first wrong byte, without a further read.
+func TestNoByteAfterAWrongOne(t *testing.T) {
+	for _, it := range []struct {
+		input  string
+		wanted *Refused
+	}{
+		{"\x83\x18\x00", refusal(NotShortest, 1, 3)},
+		{"\xa2\x61b\x00\x61a", refusal(KeyOrder, 4, 6)},
+		{"\x82\x62a\xff", refusal(InvalidText, 3, 4)},
+		{"\x82\x00\x9f", refusal(Indefinite, 2, 3)},
+	} {
+		// after two items that come in several reads too
+		input := "\x82\x01\x02" + "\x62ab" + it.input
+		var reads []string
+		for i := 0; i < len(input); i++ {
+			reads = append(reads, input[i:i+1])
+		}
+		from := &failing{append(reads, ""), append(make([]error, len(input)), errors.New("it is read on"))}
+		reader := NewCanonicalReader(from, nil)
+		for _, wanted := range []string{"\x82\x01\x02", "\x62ab"} {
+			if found, err := reader.Next(); string(found) != wanted || err != nil {
+				t.Errorf("%x, %v", found, err)
+			}
+		}
+		_, err := reader.Next()
+		expectRefused(t, it.input, err, it.wanted)
+		if len(from.reads) != 1 {
+			t.Errorf("%x: %d reads are left", it.input, len(from.reads))
+		}
+	}
+}
+
 // failing gives its reads one after another: bytes, an error, or both.
 type failing struct {
 	reads []string

@@ -22,26 +22,12 @@ _PG_init(void)
 		elog(ERROR, "the library is not naltvigo of version %s", NALTVIGO_VERSION);
 }
 
-struct naltvigo_options
-limits(void)
-{
-	struct naltvigo_options options = naltvigo_defaults();
-
-	options.depth = CBOR_DEPTH;
-	options.bytes = CBOR_BYTES;
-	return options;
-}
-
 static struct naltvigo_options
 limits_with_order(const text *order)
 {
 	struct naltvigo_options options = limits();
-	const char *name = VARDATA_ANY(order);
-	const size_t length = VARSIZE_ANY_EXHDR(order);
 
-	if (length == strlen("length") && memcmp(name, "length", length) == 0)
-		options.order = NALTVIGO_LENGTH_FIRST;
-	else if (length != strlen("bytewise") || memcmp(name, "bytewise", length) != 0)
+	if (!set_order(&options, VARDATA_ANY(order), VARSIZE_ANY_EXHDR(order)))
 		ereport(ERROR,
 				(errcode(ERRCODE_INVALID_PARAMETER_VALUE),
 				 errmsg("the order of keys is 'bytewise' or 'length'")));
@@ -50,66 +36,24 @@ limits_with_order(const text *order)
 
 /* ---- refusals */
 
-/* The sentence, the advice and the path of a refusal, each a string of its own. */
-struct explanation
-{
-	char	   *sentence;
-	char	   *advice;
-	char	   *path;
-};
-
-/* All three in one text, a line each. NULL if memory was refused. */
+/* The path is left out if the database's encoding may lack one of its characters. NULL if memory was refused. */
 static char *
-explanation_lines(const uint8_t *item, size_t item_length, const struct naltvigo_refusal *why)
-{
-	const struct naltvigo_options options = limits();
-	size_t		space = 512;
-	size_t		length;
-
-	for (;;)
-	{
-		char	   *lines = palloc(space + 1);
-		uint32_t	status = naltvigo_explain(item, item_length, &options, why, lines, space, &length);
-
-		if (status == NALTVIGO_OK && length > 0)
-		{
-			lines[length] = '\0';
-			/* the path is left out if the database's encoding may lack one of its characters */
-			if (GetDatabaseEncoding() == PG_UTF8 || pg_is_ascii(lines))
-				return lines;
-			return explanation_lines(item, 0, why);
-		}
-		pfree(lines);
-		if (status != NALTVIGO_TOO_SMALL)
-			return NULL;
-		space = length;
-	}
-}
-
-static struct explanation
 explanation_of(const bytea *item, const struct naltvigo_refusal *why)
 {
-	struct explanation found = {"", "", "$"};
 	char	   *lines = explanation_lines(ITEM(item), why);
-	char	   *advice = lines ? strchr(lines, '\n') : NULL;
-	char	   *path = advice ? strchr(advice + 1, '\n') : NULL;
 
-	if (path)
-	{
-		*advice++ = '\0';
-		*path++ = '\0';
-		found = (struct explanation) {lines, advice, path};
-	}
-	return found;
+	if (lines == NULL || GetDatabaseEncoding() == PG_UTF8 || pg_is_ascii(lines))
+		return lines;
+	return explanation_lines((const uint8_t *) VARDATA_ANY(item), 0, why);
 }
 
 static char *
 refusal_text(const struct naltvigo_refusal *why)
 {
-	char		name[NALTVIGO_NAME_MAX];
+	char	   *text = palloc(REFUSAL_MAX);
 
-	naltvigo_reason_name(why->reason, name, sizeof name);
-	return psprintf("refused %u %s at %llu", why->reason, name, (unsigned long long) why->offset);
+	write_refusal(text, why);
+	return text;
 }
 
 /* Any status but OK as an error; side says which item, or is empty. */
@@ -118,7 +62,8 @@ fail(uint32_t status, const struct naltvigo_refusal *why, const bytea *item, con
 {
 	if (status == NALTVIGO_REFUSED)
 	{
-		const struct explanation found = explanation_of(item, why);
+		char	   *lines = explanation_of(item, why);
+		const struct explanation found = split(lines ? lines : pstrdup(""));
 
 		ereport(ERROR,
 				(errcode(ERRCODE_INVALID_BINARY_REPRESENTATION),
@@ -153,6 +98,14 @@ bytea_of(const uint8_t *bytes, size_t length)
 	return out;
 }
 
+text *
+text_of(const char *utf8, size_t length)
+{
+	const char *converted = pg_any_to_server(utf8, length, PG_UTF8);
+
+	return cstring_to_text_with_len(converted, converted == utf8 ? length : strlen(converted));
+}
+
 bytea *
 bytea_of_item(struct naltvigo_cursor at)
 {
@@ -179,35 +132,17 @@ canonical_item(bytea *item)
 
 /* ---- results of any length */
 
-/* The length of an item that is not refused. */
-static size_t
-within_limit(const bytea *item)
-{
-	return Min(VARSIZE_ANY_EXHDR(item), CBOR_BYTES);
-}
-
 bytea *
 canonical_bytes(const bytea *item, const struct naltvigo_options *options)
 {
-	size_t		space = within_limit(item);
-	size_t		length;
+	struct written out = {VARHDRSZ, within_limit(VARSIZE_ANY_EXHDR(item)), NULL};
 	struct naltvigo_refusal why;
+	const uint32_t status = write_all(naltvigo_canonicalise, ITEM(item), options, &out, &why);
 
-	for (;;)
-	{
-		bytea	   *out = palloc(VARHDRSZ + space);
-		uint32_t	status = naltvigo_canonicalise(ITEM(item), options, (uint8_t *) VARDATA(out), space, &length, &why);
-
-		if (status == NALTVIGO_OK)
-		{
-			SET_VARSIZE(out, VARHDRSZ + length);
-			return out;
-		}
-		if (status != NALTVIGO_TOO_SMALL)
-			fail(status, &why, item, "");
-		pfree(out);
-		space = length;
-	}
+	if (status != NALTVIGO_OK)
+		fail(status, &why, item, "");
+	SET_VARSIZE(out.memory, VARHDRSZ + out.length);
+	return (bytea *) out.memory;
 }
 
 /* The text of an item, which is UTF-8, in the encoding of the database. */
@@ -215,26 +150,13 @@ static text *
 diagnostic_text(const bytea *item)
 {
 	const struct naltvigo_options options = limits();
-	size_t		space = 2 * within_limit(item) + 64;
-	size_t		length;
+	struct written out = {0, 2 * within_limit(VARSIZE_ANY_EXHDR(item)) + 64, NULL};
 	struct naltvigo_refusal why;
+	const uint32_t status = write_all(write_diagnostic, ITEM(item), &options, &out, &why);
 
-	for (;;)
-	{
-		char	   *out = palloc(space);
-		uint32_t	status = naltvigo_diagnostic(ITEM(item), &options, out, space, &length, &why);
-
-		if (status == NALTVIGO_OK)
-		{
-			char	   *converted = pg_any_to_server(out, length, PG_UTF8);
-
-			return cstring_to_text_with_len(converted, converted == out ? length : strlen(converted));
-		}
-		if (status != NALTVIGO_TOO_SMALL)
-			fail(status, &why, item, "");
-		pfree(out);
-		space = length;
-	}
+	if (status != NALTVIGO_OK)
+		fail(status, &why, item, "");
+	return text_of((const char *) out.memory, out.length);
 }
 
 /* ---- the functions */
@@ -306,7 +228,7 @@ cbor_explain(PG_FUNCTION_ARGS)
 
 	if (is_valid(item, &why))
 		PG_RETURN_NULL();
-	lines = explanation_lines(ITEM(item), &why);
+	lines = explanation_of(item, &why);
 	if (lines == NULL)
 		fail(NALTVIGO_NO_MEMORY, &why, item, "");
 	PG_RETURN_TEXT_P(cstring_to_text(lines));

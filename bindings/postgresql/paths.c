@@ -6,19 +6,6 @@
 #include "mb/pg_wchar.h"
 #include "utils/builtins.h"
 
-/* The value of a key of a map, the member of an array at an index from 0, or the content of a tag with this number. */
-static struct naltvigo_cursor
-step_by_integer(struct naltvigo_cursor at, int64 step)
-{
-	if (naltvigo_kind(at) == NALTVIGO_MAP)
-		return naltvigo_at_int(at, step);
-	if (step < 0)
-		return naltvigo_cursor_none(NALTVIGO_NOT_THERE);
-	if (naltvigo_kind(at) == NALTVIGO_TAG)
-		return naltvigo_at_tag(at, (uint64) step);
-	return naltvigo_at_index(at, (uint64) step);
-}
-
 /* The value of a text key of a map. The key is made UTF-8, whatever the database's encoding is. */
 static struct naltvigo_cursor
 step_by_text(struct naltvigo_cursor at, const text *step)
@@ -102,15 +89,12 @@ PG_FUNCTION_INFO_V1(cbor_text);
 Datum
 cbor_text(PG_FUNCTION_ARGS)
 {
-	uint32_t	status = NALTVIGO_OK;
 	size_t		length;
-	const char *utf8 = naltvigo_get_text(find(fcinfo), &length, &status);
-	char	   *converted;
+	const char *utf8 = text_for_sql(find(fcinfo), &length);
 
-	if (status != NALTVIGO_OK || memchr(utf8, 0, length) != NULL)
+	if (utf8 == NULL)
 		PG_RETURN_NULL();
-	converted = pg_any_to_server(utf8, length, PG_UTF8);
-	PG_RETURN_TEXT_P(cstring_to_text_with_len(converted, converted == utf8 ? length : strlen(converted)));
+	PG_RETURN_TEXT_P(text_of(utf8, length));
 }
 
 PG_FUNCTION_INFO_V1(cbor_bytes);

@@ -2,20 +2,19 @@
 #ifndef NALTVIGO_SQLITE_CALLS_H
 #define NALTVIGO_SQLITE_CALLS_H
 
-#include <naltvigo_values.h>
 #include <sqlite3ext.h>
-#include <string.h>
+SQLITE_EXTENSION_INIT3
 
-/* These limits hold for every call and never change. With others, or with those of sqlite3_limit, a function would return
- * something else than when an index or a generated column was written, and so not be deterministic. */
-enum { CBOR_DEPTH = 256, CBOR_BYTES = 1 << 25 };
+static inline void *allocate(sqlite3_uint64 size) { return sqlite3_malloc64(size); }
+static inline void release(void *memory) { sqlite3_free(memory); }
+
+#include "../sql/rules.h"
 
 struct bytes {
     const uint8_t *at;
     size_t length;
 };
 
-struct naltvigo_options limits(void);
 void fail(sqlite3_context *context, const char *sentence);
 
 /* Returns 0 if an argument is NULL: the result is then NULL. */

@@ -1,17 +1,13 @@
 /* each.c: cbor_each(item), a table with a row for each member of an array, or pair of a map: its ordinal from 0, the key (NULL in
  * an array) and the value, both in canonical bytes. No row for any other item, and for NULL. */
 #include "calls.h"
-SQLITE_EXTENSION_INIT3
 
 enum { ORDINAL, KEY, VALUE, ITEM };
 
 struct each_cursor {
     sqlite3_vtab_cursor base;
     uint8_t *bytes; /* the canonical bytes of the item, in SQLite's memory */
-    sqlite3_int64 ordinal;
-    uint64_t left; /* the number of rows that are left, including this one */
-    int is_map;
-    struct naltvigo_cursor key, value;
+    struct rows rows;
 };
 
 static int connect(sqlite3 *db, void *data, int count, const char *const *words, sqlite3_vtab **table, char **error) {
@@ -64,21 +60,6 @@ static int close_cursor(sqlite3_vtab_cursor *cursor) {
     return SQLITE_OK;
 }
 
-/* Moves to the row that begins at this item. */
-static void go_to(struct each_cursor *each, struct naltvigo_cursor at) {
-    each->key = at;
-    each->value = each->is_map ? naltvigo_next(at) : at;
-}
-
-static int begin(struct each_cursor *each, size_t length) {
-    uint32_t status = NALTVIGO_OK;
-    const struct naltvigo_cursor item = naltvigo_cursor_at(each->bytes, length, 0);
-    each->is_map = naltvigo_kind(item) == NALTVIGO_MAP;
-    each->left = naltvigo_get_count(item, &status);
-    if (each->left) go_to(each, naltvigo_first(item));
-    return SQLITE_OK;
-}
-
 /* An error of cbor_each. */
 static int refuse(sqlite3_vtab_cursor *cursor, char *sentence) {
     sqlite3_free(cursor->pVtab->zErrMsg);
@@ -93,8 +74,7 @@ static int filter(sqlite3_vtab_cursor *cursor, int number, const char *name, int
     size_t length;
     char *sentence;
     (void)number, (void)name;
-    each->left = 0;
-    each->ordinal = 0;
+    each->rows.left = 0;
     sqlite3_free(each->bytes);
     each->bytes = NULL;
     if (count == 0) return refuse(cursor, sqlite3_mprintf("cbor: cbor_each takes an item"));
@@ -104,27 +84,27 @@ static int filter(sqlite3_vtab_cursor *cursor, int number, const char *name, int
     item.length = (size_t)sqlite3_value_bytes(values[0]);
     if (!item.at && item.length) return SQLITE_NOMEM;
     each->bytes = canonical_copy(&item, &options, &length, &sentence);
-    return each->bytes ? begin(each, length) : refuse(cursor, sentence);
-}
-
-static int next(sqlite3_vtab_cursor *cursor) {
-    struct each_cursor *each = (struct each_cursor *)cursor;
-    each->ordinal++;
-    if (--each->left) go_to(each, naltvigo_next(each->value));
+    if (!each->bytes) return refuse(cursor, sentence);
+    each->rows = rows_of(each->bytes, length);
     return SQLITE_OK;
 }
 
-static int is_over(sqlite3_vtab_cursor *cursor) { return ((struct each_cursor *)cursor)->left == 0; }
+static int next(sqlite3_vtab_cursor *cursor) {
+    next_row(&((struct each_cursor *)cursor)->rows);
+    return SQLITE_OK;
+}
+
+static int is_over(sqlite3_vtab_cursor *cursor) { return ((struct each_cursor *)cursor)->rows.left == 0; }
 
 static int column(sqlite3_vtab_cursor *cursor, sqlite3_context *context, int number) {
-    const struct each_cursor *each = (const struct each_cursor *)cursor;
-    const struct naltvigo_cursor at = number == KEY ? each->key : each->value;
+    const struct rows *row = &((const struct each_cursor *)cursor)->rows;
+    const struct naltvigo_cursor at = number == KEY ? row->key : row->value;
     uint32_t status = NALTVIGO_OK;
     const uint8_t *bytes;
     size_t length;
     if (number == ORDINAL) {
-        sqlite3_result_int64(context, each->ordinal);
-    } else if (number == VALUE || (number == KEY && each->is_map)) {
+        sqlite3_result_int64(context, row->ordinal);
+    } else if (number == VALUE || (number == KEY && row->is_map)) {
         bytes = naltvigo_get_encoded(at, &length, &status);
         sqlite3_result_blob64(context, bytes, length, SQLITE_TRANSIENT);
         sqlite3_result_subtype(context, CBOR_SUBTYPE);
@@ -133,7 +113,7 @@ static int column(sqlite3_vtab_cursor *cursor, sqlite3_context *context, int num
 }
 
 static int row_id(sqlite3_vtab_cursor *cursor, sqlite3_int64 *id) {
-    *id = ((struct each_cursor *)cursor)->ordinal;
+    *id = ((struct each_cursor *)cursor)->rows.ordinal;
     return SQLITE_OK;
 }
 

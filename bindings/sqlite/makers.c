@@ -1,6 +1,5 @@
 /* makers.c: items from values of SQL. */
 #include "calls.h"
-SQLITE_EXTENSION_INIT3
 
 /* The canonical bytes of an item as the result, or its refusal. */
 static void result(sqlite3_context *context, const struct bytes *item) {

@@ -7,63 +7,21 @@
 #include "calls.h"
 SQLITE_EXTENSION_INIT1
 
-struct naltvigo_options limits(void) {
-    struct naltvigo_options options = naltvigo_defaults();
-    options.depth = CBOR_DEPTH;
-    options.bytes = CBOR_BYTES;
-    return options;
-}
-
 void fail(sqlite3_context *context, const char *sentence) { sqlite3_result_error(context, sentence, -1); }
 
 /* ---- refusals */
 
-enum { REFUSAL_MAX = 64, EXPLANATION = 512 };
-
-/* The sentence, the advice and the path of a refusal of this item, a line each, in SQLite's memory; NULL if memory was refused. */
-static char *explanation(const struct bytes *item, const struct naltvigo_refusal *why) {
-    const struct naltvigo_options options = limits();
-    size_t space = EXPLANATION, length;
-    uint32_t status;
-    char *text;
-    for (;;) {
-        text = sqlite3_malloc64(space + 1);
-        if (!text) return NULL;
-        status = naltvigo_explain(item->at, item->length, &options, why, text, space, &length);
-        if (status != NALTVIGO_TOO_SMALL) break;
-        sqlite3_free(text);
-        space = length;
-    }
-    if (status == NALTVIGO_OK) {
-        text[length] = 0;
-        return text;
-    }
-    sqlite3_free(text);
-    return NULL;
-}
-
-static void write_refusal(char text[REFUSAL_MAX], const struct naltvigo_refusal *why) {
-    char name[NALTVIGO_NAME_MAX];
-    naltvigo_reason_name(why->reason, name, sizeof name);
-    sqlite3_snprintf(REFUSAL_MAX, text, "refused %u %s at %llu", why->reason, name, (sqlite3_uint64)why->offset);
-}
-
 /* What an error says, in SQLite's memory; NULL if memory was refused. */
 static char *sentence_of(uint32_t status, const struct naltvigo_refusal *why, const struct bytes *item, const char *side) {
-    char refusal[REFUSAL_MAX], *lines, *advice, *path, *sentence;
+    char refusal[REFUSAL_MAX], *lines, *sentence;
+    struct explanation found;
     if (status == NALTVIGO_NO_MEMORY) return NULL;
     if (status != NALTVIGO_REFUSED) return sqlite3_mprintf("cbor: naltvigo returned %s", naltvigo_status_name(status));
-    write_refusal(refusal, why);
-    lines = explanation(item, why);
+    lines = explanation_lines(item->at, item->length, why);
     if (!lines) return NULL;
-    advice = strchr(lines, '\n');
-    path = advice ? strchr(advice + 1, '\n') : NULL;
-    if (!path) {
-        sentence = sqlite3_mprintf("cbor: %s%s", side, refusal);
-    } else {
-        *advice = 0;
-        sentence = sqlite3_mprintf("cbor: %s%s (%s): %s", side, refusal, path + 1, lines);
-    }
+    found = split(lines);
+    write_refusal(refusal, why);
+    sentence = sqlite3_mprintf("cbor: %s%s (%s): %s", side, refusal, found.path, found.sentence);
     sqlite3_free(lines);
     return sentence;
 }
@@ -109,56 +67,26 @@ static int take_order(sqlite3_context *context, int count, sqlite3_value **value
     *options = limits();
     if (count < 2) return 1;
     order = (const char *)sqlite3_value_text(values[1]);
-    if (order && !strcmp(order, "bytewise")) return 1;
-    if (order && !strcmp(order, "length")) {
-        options->order = NALTVIGO_LENGTH_FIRST;
-        return 1;
-    }
+    if (order && set_order(options, order, strlen(order))) return 1;
     fail(context, "cbor: the order of keys is 'bytewise' or 'length'");
     return 0;
 }
 
 /* ---- results of any length */
 
-/* What naltvigo_canonicalise and naltvigo_diagnostic write. */
-typedef uint32_t writer(const struct bytes *item, const struct naltvigo_options *options, uint8_t *out, size_t space,
-                        size_t *needed, struct naltvigo_refusal *why);
-
-static uint32_t write_canonical(const struct bytes *item, const struct naltvigo_options *options, uint8_t *out,
-                                size_t space, size_t *needed, struct naltvigo_refusal *why) {
-    return naltvigo_canonicalise(item->at, item->length, options, out, space, needed, why);
-}
-
-static uint32_t write_diagnostic(const struct bytes *item, const struct naltvigo_options *options, uint8_t *out,
-                                 size_t space, size_t *needed, struct naltvigo_refusal *why) {
-    return naltvigo_diagnostic(item->at, item->length, options, (char *)out, space, needed, why);
-}
-
-/* The result, `*length` bytes in SQLite's memory; NULL after an error, with what it says. `space` is a first guess. */
-static uint8_t *written(writer *write, const struct bytes *item, const struct naltvigo_options *options, size_t space,
+/* What a call writes, `*length` bytes in SQLite's memory; NULL after an error, with what it says. `guess` is a first length. */
+static uint8_t *written(write_call *write, const struct bytes *item, const struct naltvigo_options *options, size_t guess,
                         size_t *length, char **sentence) {
+    struct written out = {0, guess, NULL};
     struct naltvigo_refusal why;
-    uint32_t status = NALTVIGO_NO_MEMORY;
-    uint8_t *out;
-    for (;;) {
-        out = sqlite3_malloc64(space ? space : 1);
-        if (!out) break;
-        status = write(item, options, out, space, length, &why);
-        if (status == NALTVIGO_OK) return out;
-        sqlite3_free(out);
-        if (status != NALTVIGO_TOO_SMALL) break;
-        status = NALTVIGO_NO_MEMORY;
-        space = *length;
-    }
-    *sentence = sentence_of(status, &why, item, "");
-    return NULL;
+    const uint32_t status = write_all(write, item->at, item->length, options, &out, &why);
+    *sentence = status == NALTVIGO_OK ? NULL : sentence_of(status, &why, item, "");
+    *length = out.length;
+    return out.memory;
 }
-
-/* The length of an item that is not refused. */
-static size_t within_limit(const struct bytes *item) { return item->length < CBOR_BYTES ? item->length : CBOR_BYTES; }
 
 uint8_t *canonical_copy(const struct bytes *item, const struct naltvigo_options *options, size_t *length, char **sentence) {
-    return written(write_canonical, item, options, within_limit(item), length, sentence);
+    return written(naltvigo_canonicalise, item, options, within_limit(item->length), length, sentence);
 }
 
 uint8_t *canonical_bytes(sqlite3_context *context, const struct bytes *item, const struct naltvigo_options *options, size_t *length) {
@@ -224,7 +152,7 @@ static void explain(sqlite3_context *context, int count, sqlite3_value **values)
     char *lines;
     (void)count;
     if (validity(context, values, &item, &why) != NALTVIGO_REFUSED) return;
-    lines = explanation(&item, &why);
+    lines = explanation_lines(item.at, item.length, &why);
     if (lines)
         sqlite3_result_text(context, lines, -1, sqlite3_free);
     else
@@ -252,7 +180,7 @@ static void diagnostic(sqlite3_context *context, int count, sqlite3_value **valu
     char *sentence;
     uint8_t *out;
     if (!has_all(count, values) || !take_item(context, values[0], &item)) return;
-    out = written(write_diagnostic, &item, &options, 2 * within_limit(&item), &length, &sentence);
+    out = written(write_diagnostic, &item, &options, 2 * within_limit(item.length), &length, &sentence);
     if (out)
         sqlite3_result_text64(context, (char *)out, length, sqlite3_free, SQLITE_UTF8);
     else

@@ -1,6 +1,5 @@
 /* paths.c: the item at a path, as an item or as a value of SQL. */
 #include "calls.h"
-SQLITE_EXTENSION_INIT3
 
 /* What a path leads to. The cursor has no item if the path leads nowhere. */
 struct found {
@@ -19,14 +18,6 @@ static int are_steps(sqlite3_context *context, int count, sqlite3_value **values
         }
     }
     return 1;
-}
-
-/* The value of a key of a map, the member of an array at an index from 0, or the content of a tag with this number. */
-static struct naltvigo_cursor step_by_integer(struct naltvigo_cursor at, sqlite3_int64 step) {
-    if (naltvigo_kind(at) == NALTVIGO_MAP) return naltvigo_at_int(at, step);
-    if (step < 0) return naltvigo_cursor_none(NALTVIGO_NOT_THERE);
-    if (naltvigo_kind(at) == NALTVIGO_TAG) return naltvigo_at_tag(at, (uint64_t)step);
-    return naltvigo_at_index(at, (uint64_t)step);
 }
 
 /* Returns 0 after an error. */
@@ -101,14 +92,11 @@ void get_int(sqlite3_context *context, int count, sqlite3_value **values) {
 
 void get_text(sqlite3_context *context, int count, sqlite3_value **values) {
     struct found found;
-    uint32_t status = NALTVIGO_OK;
     const char *text;
     size_t length;
     if (!has_item(context, count, 1) || !find(context, count, values, &found)) return;
-    text = naltvigo_get_text(found.at, &length, &status);
-    /* what SQLite does with a zero character in a text is not defined */
-    if (status == NALTVIGO_OK && !memchr(text, 0, length))
-        sqlite3_result_text64(context, text, length, SQLITE_TRANSIENT, SQLITE_UTF8);
+    text = text_for_sql(found.at, &length);
+    if (text) sqlite3_result_text64(context, text, length, SQLITE_TRANSIENT, SQLITE_UTF8);
     sqlite3_free(found.made);
 }
 

@@ -40,7 +40,7 @@ install_database() { # sqlite or postgresql
     *) lacks='no such extension' ;;
     esac
     [ -z "$lacks" ] || { echo "install: $1: $lacks" >&2; exit 1; }
-    cp -r "$root/bindings/$1" "$scratch/$1"
+    cp -r "$root"/bindings/{sql,"$1"} "$scratch"
     if [ "$1" = sqlite ]; then
         make -s -C "$scratch/sqlite" NALTVIGO="$library"
         put "$scratch/sqlite/naltvigo_sqlite.so" lib/sqlite3/naltvigo_sqlite.so 755

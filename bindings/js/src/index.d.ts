@@ -1,11 +1,14 @@
-import type { Naltvigo } from './load.js';
+import type { Checker as CheckerOfItem, Naltvigo } from './load.js';
 
 export { DecodeError, EncodeError, Refused, Simple, SortedMap, Tag } from './load.js';
-export type { Bytes, DecodingOptions, Event, ObjectValue, Options, ReadingOptions, Value } from './load.js';
+export type { Bytes, ByteSink, DecodingOptions, Event, ObjectValue, Options, ReadingOptions, Value } from './load.js';
 
 export const canonicalise: Naltvigo['canonicalise'];
 export const check: Naltvigo['check'];
 export const checkCanonical: Naltvigo['checkCanonical'];
+export const Checker: Naltvigo['Checker'];
+export type Checker = CheckerOfItem;
+export const checkStream: Naltvigo['checkStream'];
 export const decode: Naltvigo['decode'];
 export const diagnostic: Naltvigo['diagnostic'];
 export const encode: Naltvigo['encode'];

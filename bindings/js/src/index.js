@@ -10,6 +10,6 @@ const address = hasMemory64()
 const naltvigo = await load(fetch(address));
 
 export const {
-    canonicalise, check, checkCanonical, decode, diagnostic, encode, events, freeMemory, items, readItems, same,
-    version,
+    canonicalise, check, checkCanonical, Checker, checkStream, decode, diagnostic, encode, events, freeMemory, items,
+    readItems, same, version,
 } = naltvigo;

@@ -6,5 +6,6 @@ import { loadSync } from './load.js';
 export * from './load.js';
 
 export const {
-    canonicalise, check, checkCanonical, decode, diagnostic, encode, events, freeMemory, items, readItems, same, version,
+    canonicalise, check, checkCanonical, Checker, checkStream, decode, diagnostic, encode, events, freeMemory, items,
+    readItems, same, version,
 } = loadSync(module);

@@ -22,7 +22,11 @@ export function wordsAt(buffer, offset, count, isLittleEndian = IS_LITTLE_ENDIAN
     return Uint32Array.from({ length: count }, (_, i) => view.getUint32(4 * i, true));
 }
 
+/** How many bytes of a longer input are copied to the module at once, where that suffices. */
+export const WINDOW = 1 << 16;
+
 const SMALLEST = 256;
+const PAGE = 1 << 16;
 const TEXT = new TextDecoder('utf-8', { ignoreBOM: true });
 
 /** A block of the module's memory, which grows if it must and is reused from call to call. */
@@ -64,16 +68,35 @@ const HEAD = 48;
 const RESULTS = 64;
 const LONGEST_HEAD = 9n;
 
+/** Grows a memory to a size. If it has 64-bit addresses, some engines take the number of pages only as a bigint. */
+function growTo(memory, size) {
+    const pages = (size - memory.buffer.byteLength) / PAGE;
+    try {
+        try {
+            memory.grow(pages);
+        } catch (error) {
+            if (!(error instanceof TypeError)) throw error;
+            memory.grow(BigInt(pages));
+        }
+    } catch {
+        throw outOfMemory();
+    }
+}
+
 export class Instance {
     #bytes;
     #words;
     #putHead;
 
-    constructor(instance) {
+    /** @param before an instance that trapped, if this one goes on with its memory */
+    constructor(instance, before) {
         this.exports = instance.exports;
         this.#putHead = instance.exports.naltvigo_put_head_raw;
         /** False once a call did not return: its stack and its blocks are then as the trap left them. */
         this.isUsable = true;
+        /** The instance that then goes on with the memory, if there is one. */
+        this.heir = undefined;
+        if (before) this.#inherit(before);
         this.#refresh();
         this.left = new Block(this);
         this.right = new Block(this);
@@ -85,6 +108,15 @@ export class Instance {
         this.second = results.pointer + BigInt(SECOND);
         this.refusal = results.pointer + BigInt(REFUSAL);
         this.head = results.pointer + BigInt(HEAD);
+    }
+
+    /** Copies the memory, and releases the blocks of calls, so that only the checkers remain. */
+    #inherit(before) {
+        const { memory, release } = this.exports, { buffer } = before.exports.memory;
+        growTo(memory, buffer.byteLength);
+        new Uint8Array(memory.buffer).set(new Uint8Array(buffer));
+        for (const { size, pointer } of [before.left, before.right, before.output, before.table]) if (size > 0) release(pointer);
+        release(before.first);
     }
 
     #refresh() {
@@ -199,6 +231,14 @@ export class Library {
     instance() {
         if (!this.#instance?.isUsable) this.#instance = new Instance(new WebAssembly.Instance(this.#module, {}));
         return this.#instance;
+    }
+
+    /**
+     * The instance that goes on with the memory of one that trapped, for the checkers there. Only the one whose call trapped is
+     * lost. Other calls begin with a new memory.
+     */
+    heirOf(instance) {
+        return instance.heir ??= new Instance(new WebAssembly.Instance(this.#module, {}), instance);
     }
 
     /** Drops the instance with its memory; the next call makes another. */

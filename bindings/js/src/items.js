@@ -1,6 +1,8 @@
 // The items of a sequence (RFC 8742), whose bytes are there, or come in chunks.
+import { iterableOf } from './chunks.js';
 import { GrowingBytes } from './growing.js';
 import { bytesOf } from './input.js';
+import { WINDOW } from './instance.js';
 import { Machine, PART } from './machine.js';
 import { OK, REFUSED, TRUNCATED } from './numbers.js';
 import { settingsOfReading } from './options.js';
@@ -11,12 +13,8 @@ export function items(library, data, options) {
 
 export function readItems(library, chunks, options) {
     const sequence = new Sequence(library, settingsOfReading(options));
-    if (ArrayBuffer.isView(chunks)) throw new TypeError('naltvigo: readItems takes an iterable of chunks; items takes a buffer');
-    return itemsOf(sequence, iterableOf(chunks));
+    return itemsOf(sequence, iterableOf(chunks, 'readItems', 'items'));
 }
-
-/** How many bytes are copied to the module at once: more if an item is longer, but no more than the limit allows. */
-const WINDOW = 1 << 16;
 
 class Sequence {
     constructor(library, given) {
@@ -31,6 +29,7 @@ class Sequence {
 
     /** The items that are whole in the data; returns what follows them. At the end of the sequence nothing may. */
     *itemsIn(data, isEnd) {
+        // more is copied at once if an item is longer, but no more than the limit allows
         let size = WINDOW, at = 0;
         while (at < data.length) {
             const window = data.subarray(at, at + Math.min(size, this.most));
@@ -122,20 +121,5 @@ class OpenItem {
 
     bytes() {
         return this.#bytes.all();
-    }
-}
-
-function iterableOf(chunks) {
-    if (typeof (chunks?.[Symbol.asyncIterator] ?? chunks?.[Symbol.iterator]) === 'function' && typeof chunks !== 'string') return chunks;
-    if (typeof chunks?.getReader === 'function') return chunksOf(chunks.getReader());
-    throw new TypeError('naltvigo: the chunks are an iterable or a ReadableStream of Uint8Arrays or other buffers');
-}
-
-/** Of a ReadableStream that is not an iterable, as in Safari. */
-async function* chunksOf(reader) {
-    try {
-        for (let read = await reader.read(); !read.done; read = await reader.read()) yield read.value;
-    } finally {
-        await reader.cancel();
     }
 }

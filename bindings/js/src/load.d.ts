@@ -11,6 +11,22 @@ export interface ByteStream {
     };
 }
 
+/** A WritableStream of buffers. */
+export interface ByteSink {
+    readonly locked: boolean;
+    abort(reason?: any): Promise<void>;
+    close(): Promise<void>;
+    getWriter(): {
+        readonly closed: Promise<undefined>;
+        readonly ready: Promise<undefined>;
+        readonly desiredSize: number | null;
+        abort(reason?: any): Promise<void>;
+        close(): Promise<void>;
+        releaseLock(): void;
+        write(chunk?: any): Promise<void>;
+    };
+}
+
 /** What each call takes besides its input. An option that does not concern a call is checked, and not used. */
 export interface Options {
     /** How deep arrays, maps and tags may nest: 0 to 1024, and 64 by default. */
@@ -84,7 +100,7 @@ export class Refused extends Error {
     readonly sentence: string;
     /** What to do about it. */
     readonly advice: string;
-    /** The path to what is refused, as `$[1]."a"`; not of `events`, whose bytes are not kept. */
+    /** The path to what is refused, as `$[1]."a"`; not of `events` and of checkers, whose bytes are not kept. */
     readonly path?: string;
     /** Of `same`: the input that is refused. */
     readonly side?: 'left' | 'right';
@@ -92,6 +108,38 @@ export class Refused extends Error {
     readonly item?: number;
     /** Of `items` and `readItems`: the offset of that item's first byte. */
     readonly start?: number;
+}
+
+/**
+ * Checks an item whose bytes come in parts. After each part the result is that of `checkCanonical` for all bytes so far,
+ * however they are cut, so a wrong byte is refused when it comes. Of the item it keeps only the last key of each open map,
+ * and all of a key that is not complete.
+ *
+ * It uses memory of the module from the first part until the item is complete or refused, until `free`, or until it is
+ * collected as garbage.
+ */
+export interface Checker {
+    /** Whether the item is complete, and so canonical. */
+    readonly complete: boolean;
+    /** How many bytes of the item were read. */
+    readonly consumed: number;
+    /**
+     * Checks the next part. Returns how many of its bytes belong to the item: all of them unless the item ends before the
+     * part does, and 0 if the item was complete before. Throws `Refused` at a wrong byte, and again at each later call.
+     * Throws a `RangeError` if the engine gives no more memory; if it was for a key, again until `restart`.
+     */
+    feed(part: Bytes): number;
+    /** Says that no byte follows. Throws `Refused` (1 Truncated, at `consumed`) if the item is not complete. */
+    end(): void;
+    /** Goes on with another item, whatever became of the one before. */
+    restart(): void;
+    /** Releases the memory of an item that is not complete. Then `feed` and `end` throw an `Error` until `restart`. */
+    free(): void;
+    /**
+     * A WritableStream that accepts exactly one item. A write is rejected with `Refused` at a wrong byte, or if bytes follow
+     * the item (12 Trailing). `close` is rejected if the item is not complete. `abort` calls `free`.
+     */
+    writable(): ByteSink;
 }
 
 /** `encode` was given a value that cannot be encoded. */
@@ -149,6 +197,15 @@ export interface Naltvigo {
     check(this: void, data: Bytes, options?: Options): void;
     /** Returns if the input is one valid item in its canonical bytes; else throws `Refused`. */
     checkCanonical(this: void, data: Bytes, options?: Options): void;
+    /** Makes a checker, for an item of which no byte has come. */
+    readonly Checker: new (options?: Options) => Checker;
+    /**
+     * The number of bytes in these chunks, if they are one valid item in its canonical bytes. Rejects with `Refused` as soon
+     * as a wrong byte comes. The bytes are not kept.
+     */
+    checkStream(
+        this: void, chunks: AsyncIterable<Bytes> | Iterable<Bytes> | ByteStream, options?: Options,
+    ): Promise<number>;
     /** Whether two valid items have the same value; throws `Refused` for the left one first. */
     same(this: void, left: Bytes, right: Bytes, options?: Options): boolean;
     /** The diagnostic text (RFC 8949, section 8) of the one valid item that the input is, its pairs in their order. */

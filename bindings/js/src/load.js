@@ -1,5 +1,6 @@
 // The calls over a module that the caller brings.
 import { canonicalise, check, checkCanonical, diagnostic, same, version } from './calls.js';
+import { checkerOf, checkStream } from './checker.js';
 import { decode } from './decode.js';
 import { encode } from './encode.js';
 import { events } from './events.js';
@@ -42,6 +43,8 @@ function callsOver(library) {
         canonicalise: over(canonicalise),
         check: over(check),
         checkCanonical: over(checkCanonical),
+        Checker: checkerOf(library),
+        checkStream: over(checkStream),
         decode: over(decode),
         diagnostic: over(diagnostic),
         encode: over(encode),

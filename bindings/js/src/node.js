@@ -8,6 +8,6 @@ const address = new URL(`../wasm/naltvigo${hasMemory64() ? 64 : 32}.wasm`, impor
 const naltvigo = await load(readFile(address));
 
 export const {
-    canonicalise, check, checkCanonical, decode, diagnostic, encode, events, freeMemory, items, readItems, same,
-    version,
+    canonicalise, check, checkCanonical, Checker, checkStream, decode, diagnostic, encode, events, freeMemory, items,
+    readItems, same, version,
 } = naltvigo;

@@ -5,6 +5,7 @@ import { test } from 'node:test';
 import {
     canonicalise, check, checkCanonical, decode, diagnostic, encode, events, items, Refused, same, version,
 } from 'naltvigo';
+import { load } from 'naltvigo/load';
 import { bytes, hex } from './given.mjs';
 
 const OF_ONE = [canonicalise, check, checkCanonical, decode, diagnostic, items];
@@ -127,4 +128,14 @@ test('a result that is longer than its input, and texts that are', () => {
     escaped.set(bytes('7903e8'));
     assert.equal(diagnostic(escaped), `"${'\\u0001'.repeat(1000)}"`);
     assert.equal(diagnostic(bytes('63efbbbf')), '"\ufeff"');
+});
+
+test('the names of the package are the same in each of its files', async () => {
+    const source = name => readFileSync(new URL(`../src/${name}`, import.meta.url), 'utf8');
+    const names = text => text.match(/\w+/g).sort();
+    const module = new URL('../wasm/naltvigo32.wasm', import.meta.url), calls = Object.keys(await load(readFileSync(module))).sort();
+    for (const file of ['index.js', 'node.js', 'inlined.js']) assert.deepEqual(names(/^export const \{([^}]*)\} =/m.exec(source(file))[1]), calls, file);
+    assert.deepEqual([...source('index.d.ts').matchAll(/^export const (\w+):/gm)].map(found => found[1]).sort(), calls);
+    const classes = /^export \{(.*)\} from '.\/load.js';$/m;
+    for (const file of ['index.js', 'index.d.ts']) assert.equal(classes.exec(source(file))[1], classes.exec(source('node.js'))[1], file);
 });

@@ -17,6 +17,7 @@ test('require and import', async () => {
         const bytes = one.encode([new one.Tag(1, new one.Simple(5)), large]), value = other.decode(bytes);
         assert.ok(value[0] instanceof one.Tag && value[0].content instanceof one.Simple && value[1] instanceof one.SortedMap);
         assert.deepEqual(one.encode(value), bytes);
+        assert.equal(await one.checkStream([bytes.subarray(0, 5), bytes.subarray(5)]), new other.Checker().feed(bytes));
         for (const [call, name] of [[() => other.check(new Uint8Array(0)), 'Refused'], [() => other.encode(0.5), 'EncodeError']]) {
             assert.throws(call, error => error instanceof one[name] && error.name === name && !(error instanceof one.DecodeError));
         }

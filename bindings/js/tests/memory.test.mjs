@@ -121,7 +121,7 @@ test('no call takes more of its stack than the header says, at any depth', async
             for (const inner of ['00', 'ff', 'f9', '7f6161ff', '61ff', '', '0000']) shapes.push(around(opener, depth, inner));
         }
     }
-    const input = x.allocate(65536n), output = x.allocate(1n << 20n), results = x.allocate(48n);
+    const input = x.allocate(65536n), output = x.allocate(1n << 20n), results = x.allocate(48n), checker = x.allocate(8n);
     const options = [0, 0, 1024, 1n << 20n];
     const calls = {
         canonicalise: (p, n) => x.naltvigo_canonicalise_raw(p, n, ...options, output, 1n << 20n, results, results + 16n),
@@ -129,6 +129,12 @@ test('no call takes more of its stack than the header says, at any depth', async
         checkCanonical: (p, n) => x.naltvigo_check_canonical_raw(p, n, ...options, results + 16n),
         same: (p, n) => x.naltvigo_compare_raw(p, n, p, n, ...options.slice(1), results + 8n, results + 16n),
         diagnostic: (p, n) => x.naltvigo_diagnostic_raw(p, n, ...options.slice(1), output, 1n << 20n, results, results + 16n),
+        inParts: (p, n) => {
+            x.naltvigo_checker_new_raw(...options, checker);
+            x.naltvigo_checker_take_raw(checker, p, n, results, results + 16n);
+            x.naltvigo_checker_end_raw(checker, results + 16n);
+            x.naltvigo_checker_free_raw(checker);
+        },
     };
     for (const [name, call] of Object.entries(calls)) {
         let most = 0;

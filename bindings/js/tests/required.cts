@@ -6,4 +6,5 @@ import loading = require('naltvigo/load');
 const data: Uint8Array = naltvigo.encode({ a: new naltvigo.Tag(1, 2) });
 const value: Value = decode(data, { canonical: true });
 const { encode }: loading.Naltvigo = loading.loadSync(data);
-export = { value, encode };
+const checker: naltvigo.Checker = new naltvigo.Checker();
+export = { value, encode, checker };

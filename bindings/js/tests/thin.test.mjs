@@ -5,6 +5,7 @@ import { test } from 'node:test';
 import * as naltvigo from 'naltvigo';
 import { load } from 'naltvigo/load';
 import * as calls from '../src/calls.js';
+import { checkerOf } from '../src/checker.js';
 import { decode } from '../src/decode.js';
 import { encode } from '../src/encode.js';
 import { events } from '../src/events.js';
@@ -43,6 +44,11 @@ test('no pointer is null, in the first call and with no bytes', async () => {
         canonicalItems: (library, data) => [...items(library, data, { canonical: true })],
         events: (library, data, options) => [...events(library, data, options)],
         strictly: (library, data) => decode(library, data, { canonical: true }),
+        inParts: (library, data, options) => {
+            const checker = new (checkerOf(library))(options);
+            checker.feed(data);
+            checker.end();
+        },
     };
     delete all.canonicalRegion;
     delete all.canonicalBytes;
@@ -85,6 +91,7 @@ test('a Uint8Array that says something else of itself is taken for the bytes tha
         assert.deepEqual([...naltvigo.items(data)].map(hex), [hex(honest)]);
         assert.deepEqual([...naltvigo.events(data)].map(it => it.number), [1000, 1000]);
         assert.deepEqual([...naltvigo.events([data])].map(it => it.number), [1000, 1000]);
+        assert.equal(new naltvigo.Checker().feed(data), honest.length);
         assert.deepEqual(naltvigo.encode(data), naltvigo.encode(honest));
         assert.deepEqual(names.map(name => naltvigo[name](honest)), wanted);
     }

@@ -18,10 +18,13 @@ export function leastTime(call, turns = 3) {
     return least;
 }
 
-/** How many times as long as the other a call takes; the least of some attempts, since other processes hold the processor. */
-export function ratioOf(call, other) {
+/**
+ * How many times as long as the other a call takes; the least of some attempts, since other processes hold the processor. One
+ * that is no more than `enough` is the last.
+ */
+export function ratioOf(call, other, enough = 5) {
     let ratio = Infinity;
-    for (let attempt = 0; attempt < 4 && ratio > 5; attempt++) ratio = Math.min(ratio, leastTime(call) / leastTime(other));
+    for (let attempt = 0; attempt < 4 && ratio > enough; attempt++) ratio = Math.min(ratio, leastTime(call) / leastTime(other));
     return ratio;
 }
 

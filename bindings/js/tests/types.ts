@@ -1,7 +1,7 @@
 // What tsc --strict must accept, and must refuse. It is compiled, and not run.
 import {
-    canonicalise, check, checkCanonical, decode, DecodeError, diagnostic, encode, EncodeError, events, freeMemory, items, readItems,
-    Refused, same, Simple, SortedMap, Tag, version,
+    canonicalise, check, checkCanonical, Checker, checkStream, decode, DecodeError, diagnostic, encode, EncodeError, events,
+    freeMemory, items, readItems, Refused, same, Simple, SortedMap, Tag, version,
 } from 'naltvigo';
 import type { Event, ObjectValue, Options, Value } from 'naltvigo';
 import { hasMemory64, load, type Naltvigo } from 'naltvigo/load';
@@ -37,12 +37,23 @@ export async function readAll(stream: ReadableStream<Uint8Array>, chunks: AsyncI
     for await (const item of readItems([data])) item.subarray(1);
     freeMemory();
 }
+const checker: Checker = new Checker(options);
+const whole: boolean = checker.feed(data) + checker.consumed > 0 && checker.complete;
+export async function checkAll(stream: ReadableStream<Uint8Array>, chunks: AsyncIterable<Uint8Array>): Promise<number> {
+    await stream.pipeTo(checker.writable());
+    const sink: WritableStream<Uint8Array> = checker.writable();
+    await sink.getWriter().write(data);
+    checker.end();
+    checker.restart();
+    checker.free();
+    return await checkStream(stream, options) + await checkStream(chunks) + await checkStream([data, data.buffer]);
+}
 const loaded: Promise<Naltvigo> = load(fetch(hasMemory64() ? 'a' : 'b'));
-loaded.then(({ encode: put }) => put(version()));
+loaded.then(({ encode: put, Checker: Own }) => put(version() + new Own().consumed));
 interface Point { x: number; y: number }
 const point: Point = { x: 1, y: 2 };
 encode(point);
-export const used = [nothing, isSame, text];
+export const used = [nothing, isSame, text, whole];
 
 // @ts-expect-error: there is no such order
 canonicalise(data, { order: 'sorted' });
@@ -50,6 +61,10 @@ canonicalise(data, { order: 'sorted' });
 canonicalise(data, { max_bytes: 1 });
 // @ts-expect-error: canonical is of decode and items alone
 check(data, { canonical: true });
+// @ts-expect-error: nor of a checker
+new Checker({ canonical: true });
+// @ts-expect-error: a buffer is checked by checkCanonical
+checkStream(data);
 // @ts-expect-error: nor such maps
 decode(data, { maps: 'objects' });
 // @ts-expect-error: a SortedMap is made by decode alone

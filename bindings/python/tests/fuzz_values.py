@@ -3,7 +3,8 @@
     fuzz_values.py [COUNT [SEED]]    COUNT inputs (100,000), from the seed SEED (1)
 
 Bytes that `check` accepts must come back from dumps(loads(..)) as canonicalise writes them; bytes that it refuses must be
-refused by loads for the same reason at the same offset. A failure names the seed and the input.
+refused by loads for the same reason at the same offset. A Checker must say of parts what check_canonical says of all bytes so
+far. A failure names the seed and the input.
 """
 
 import random
@@ -78,6 +79,30 @@ def judge_sequence(data):
     return None if answer[0] == b"".join(canonical) else "canonicalise_items is not canonicalise of each"
 
 
+def judge_parts(data, options, rng):
+    """What a Checker says of the parts, next to what check_canonical says of all bytes so far."""
+    checker, begin = naltvigo.Checker(**options), 0
+    for end in sorted(rng.choices(range(len(data) + 1), k=rng.choice((1, 2, 20)))) + [len(data)]:
+        found, wanted = outcome(checker.feed, data[begin:end]), outcome(naltvigo.check_canonical, data[:end], **options)
+        begin = end
+        if isinstance(wanted, Refused) and wanted.name == "Truncated":
+            if found is not False or checker.consumed != end:
+                return f"a part up to {end}: {found}, and not {wanted}"
+            continue
+        length = wanted.offset if isinstance(wanted, Refused) and wanted.name == "Trailing" else end if wanted is None else None
+        if found is not True if length is not None else place(found) != place(wanted):
+            return f"a part up to {end}: {found}, and not {wanted}"
+        if checker.consumed != (wanted.consumed if length is None else length):
+            return f"a part up to {end}: {checker.consumed} bytes consumed"
+        break
+    found, wanted = outcome(naltvigo.check_stream, [data[:begin], data[begin:]], **options), outcome(naltvigo.check_canonical, data, **options)
+    return None if (found == len(data) if wanted is None else place(found) == place(wanted)) else f"check_stream: {found}, and not {wanted}"
+
+
+def place(refused):
+    return (refused.reason, refused.offset, refused.consumed) if isinstance(refused, Refused) else refused
+
+
 def main():
     count = int(sys.argv[1]) if len(sys.argv) > 1 else 100_000
     seed = int(sys.argv[2]) if len(sys.argv) > 2 else 1
@@ -87,7 +112,7 @@ def main():
         data = damaged(rng)
         options = {"depth": rng.choice((1, 3, 12, 1024)), "keys": rng.choice(("any", "any", "basic"))}
         options["max_bytes"] = rng.choice((10, 1 << 20))
-        wrong = judge(data, options) or judge_sequence(data)
+        wrong = judge(data, options) or judge_sequence(data) or judge_parts(data, options, rng)
         if wrong:
             sys.exit(f"seed {seed}, input {turn}, {data.hex()}, {options}: {wrong}")
         accepted += outcome(naltvigo.check, data) is None

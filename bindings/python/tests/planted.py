@@ -26,6 +26,14 @@ BUGS = [
     ("machine.c", "thresholds", "self->machine.consumed - (uint64_t)at", "self->machine.consumed"),
     ("machine.c", "thresholds", "(offset - begins)", "(offset % 4096 - begins)"),
     ("machine.c", "thresholds", "is_piece ? (Py_ssize_t)number : 0", "is_piece ? (Py_ssize_t)(number & 4095) : 0"),
+    ("checker.c", "checker", "self->consumed += used;", "self->consumed = used;"),
+    ("checker.c", "checker", "self->is_complete = status == NALTVIGO_OK;", "self->is_complete = status != NALTVIGO_MORE;"),
+    ("checker.c", "memory", "    rest.bytes -= self->consumed;", "    "),
+    ("checker.c", "checker", "    self->is_busy = 1;\n", ""),
+    ("checker.c", "checker", "release_lock(input->length)", "NULL"),
+    ("checker.c", "memory", "    if (self->checker.memory) naltvigo_checker_free_raw(&self->checker);\n", ""),
+    ("checker.c", "checker", "naltvigo_checker_restart_raw(self->options.order, ", "naltvigo_checker_restart_raw(NALTVIGO_BYTEWISE, "),
+    ("options.c", "checker", "    if (named && !PyArg_ValidateKeywordArguments(named)) return -1;\n", ""),
     ("sequence.c", "thresholds", "limit < LONG_INPUT ? limit : LONG_INPUT", "LONG_INPUT"),
     ("sequence.c", "thresholds", "cursor->count++;\n    if (status", "cursor->count = (cursor->count + 1) & 0xffff;\n    if (status"),
     ("sequence.c", "thresholds", "cursor->at += taken;", "cursor->at = (cursor->at + taken) & 0xffffff;"),
@@ -117,7 +125,8 @@ class Extension:
         begin = time.monotonic()
         try:
             limit = self.limits.get(tests, 3600)
-            ran = subprocess.run(words, capture_output=True, text=True, env=own, timeout=limit, cwd=self.folder, preexec_fn=limit_memory)
+            more = dict(timeout=limit, cwd=self.folder, preexec_fn=limit_memory)
+            ran = subprocess.run(words, capture_output=True, text=True, errors="replace", env=own, **more)
         except subprocess.TimeoutExpired:
             return "it took too long"
         self.limits.setdefault(tests, 30 + 3 * (time.monotonic() - begin))

@@ -12,7 +12,7 @@ import gc
 import sys
 
 import naltvigo
-from naltvigo import Encoded, FrozenDict, Simple, Tag, dumps, loads, undefined
+from naltvigo import Checker, Encoded, FrozenDict, Simple, Tag, dumps, loads, undefined
 from naltvigo._native import start_machine
 
 refuser = ctypes.CDLL(None)
@@ -62,6 +62,8 @@ WRONG = {
     "loads of equal keys": (call(loads, b"\x81\xa2\x01\0\xf5\0"), ValueError),
     "loads of no item": (call(loads, b"\x82\0"), naltvigo.Refused),
     "canonicalise of no item": (call(naltvigo.canonicalise, b"\x82\0"), naltvigo.Refused),
+    "feed of no item": (call(Checker().feed, b"\x82\xff"), naltvigo.Refused),
+    "end of no item": (call(Checker().end), naltvigo.Refused),
     "item_ends of no item": (call(naltvigo.item_ends, b"\0\x82\0"), naltvigo.Refused),
 }
 
@@ -122,6 +124,31 @@ def iterators(counts):
                 sys.exit(f"{to_call[0]}, request {start} refused: {found!r}")
 
 
+def checkers(counts):
+    """Checkers: one that was refused memory refuses all until it is restarted."""
+    longest = dumps({(n, "k" * 200): [{"a": {n: n}}] for n in range(40)})
+    refused = 1
+    for start in range(1, 1000):
+        made, was_made = with_refusal(call(Checker), start)
+        checker = Checker()
+        found, refused = with_refusal(call(checker.feed, bytearray(longest)), start)
+        counts[0], counts[1] = counts[0] + 2, counts[1] + refused + was_made
+        if isinstance(made, type) and not (made is MemoryError and was_made):
+            sys.exit(f"Checker, request {start} refused: {made!r}")
+        if not (found is True or found is MemoryError and refused):
+            sys.exit(f"feed, request {start} refused: {found!r}")
+        # of a part that was not copied nothing was used
+        if checker.consumed and found is MemoryError and outcome(call(checker.feed, b"")) is not MemoryError:
+            sys.exit(f"feed, request {start} refused: it goes on")
+        checker.restart()
+        if outcome(call(checker.feed, longest)) is not True or checker.used != len(longest):
+            sys.exit(f"feed, request {start} refused: a restart does not help")
+        if not refused:
+            break
+    if start < 3:
+        sys.exit("feed requests no memory")
+
+
 def main():
     counts = [0, 0]
     gc.disable()
@@ -132,6 +159,7 @@ def main():
             sys.exit(f"{name}: {outcome(to_call)}, and not {error}")
         try_all(name, to_call, error, counts)
     iterators(counts)
+    checkers(counts)
     if counts[1] < 1000:
         sys.exit(f"only {counts[1]} calls were refused memory: is refuse.so loaded?")
     print(f"{counts[0]} calls, {counts[1]} of them refused memory: MemoryError, or the usual result")

@@ -3,7 +3,9 @@
 import array
 import ctypes
 import gc
+import io
 import mmap
+import os
 import random
 import subprocess
 import sys
@@ -36,6 +38,12 @@ def most_memory(call):
         return found, tracemalloc.get_traced_memory()[1]
     finally:
         tracemalloc.stop()
+
+
+def resident():
+    """The bytes of memory that this process has now."""
+    with open("/proc/self/statm", encoding="ascii") as file:
+        return int(file.read().split()[1]) * os.sysconf("SC_PAGE_SIZE")
 
 
 def blocks():
@@ -192,6 +200,8 @@ class Leaks(unittest.TestCase):
             yield list, (items(memoryview(data + data)),), {}
             yield list, (items([data, data[:-1]]),), {}
             yield list, (naltvigo.events([data, data]),), {}
+            yield naltvigo.check_stream, ([data[:3], bytearray(data[3:])],), {}
+            yield naltvigo.Checker, (), {"wrong": 1}
             yield lambda one: (loads(one) == loads(one), hash(next(iter(loads(one))))), (data,), {}
 
     def growth(self, turns):
@@ -253,6 +263,60 @@ class Leaks(unittest.TestCase):
             del mapped
             gc.collect()
             self.assertIsNone(seen())
+
+
+class InParts(unittest.TestCase):
+    """Of an item whose bytes come in parts little is stored."""
+
+    def test_an_item_larger_than_the_memory(self):
+        # 64 MiB in small chunks, and of a file: neither Python's memory nor that of the process grows
+        count = 1 << 16
+        one, most = head(2, 1020) + bytes(1020), [0]
+        length = len(head(4, count)) + count * len(one)
+
+        def parts():
+            yield head(4, count)
+            for turn in range(count):
+                yield from (one[:300], one[300:])
+                if turn % 1024 == 0:
+                    most[0] = max(most[0], resident())
+
+        class File(io.RawIOBase):
+            chunks = parts()
+
+            def read(self, size=-1):
+                return next(self.chunks, b"")
+
+        for source in (parts(), File()):
+            before = resident()
+            tracemalloc.start()
+            try:
+                self.assertEqual(naltvigo.check_stream(source, max_bytes=1 << 27), length)
+                self.assertLess(tracemalloc.get_traced_memory()[1], 1 << 19)
+            finally:
+                tracemalloc.stop()
+            self.assertLess(most[0] - before, 8 << 20)
+
+    def test_nothing_is_left_of_checkers(self):
+        # each has some 10 KiB and a key
+        key = b"\xa1" + head(2, 1000) + bytes(1000) + b"\0"
+        for _ in range(200):
+            naltvigo.Checker().feed(key[:900])
+        before = resident()
+        for _ in range(5000):
+            naltvigo.Checker().feed(key[:900])
+            checker = naltvigo.Checker()
+            checker.feed(key)
+            checker.restart()
+        self.assertLess(resident() - before, 16 << 20)
+
+    def test_a_copy_is_no_longer_than_the_rest_of_the_item(self):
+        for begin, limit in ((b"", 10), (head(2, 1 << 20) + bytes(1 << 20), (1 << 20) + 8)):
+            checker = naltvigo.Checker(max_bytes=limit)
+            checker.feed(begin[:-1])
+            more = bytearray(1 << 24)
+            for part in (more, memoryview(more)[::2]):
+                self.assertLess(most_memory(lambda: checker.feed(part))[1], 10_000)
 
 
 class Interpreters(unittest.TestCase):

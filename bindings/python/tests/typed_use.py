@@ -39,6 +39,17 @@ def events() -> list[Event]:
     return [*naltvigo.events([b"\x82", bytearray(b"\x01")]), *naltvigo.events(mmap.mmap(-1, 1))]
 
 
+def streams(file: int, parts: Iterator[bytes]) -> int:
+    checker = naltvigo.Checker(order="length", keys="basic", depth=3, max_bytes=9)
+    for part in parts:
+        if checker.feed(part) or checker.feed(bytearray(part)):
+            break
+    checker.restart()
+    with open(file, "rb") as opened:
+        length: int = naltvigo.check_stream(opened) + naltvigo.check_stream(parts) + naltvigo.check_stream(b"\x00", depth=3)
+    return checker.used + checker.consumed + checker.end() + checker.complete + length
+
+
 def refusals() -> tuple[int, str, int, str | None]:
     try:
         naltvigo.check(b"")
@@ -51,4 +62,7 @@ def refusals() -> tuple[int, str, int, str | None]:
 naltvigo.canonicalise("text")  # type: ignore[arg-type]
 naltvigo.canonicalise(b"", order="shortest")  # type: ignore[arg-type]
 naltvigo.canonicalise(b"", deep=3)  # type: ignore[call-arg]
+naltvigo.Checker().feed("text")  # type: ignore[arg-type]
+naltvigo.Checker().used = 3  # type: ignore[misc]
+naltvigo.check_stream("some.cbor")  # type: ignore[arg-type]
 naltvigo.Tag(1, 2).number = 3  # type: ignore[misc]

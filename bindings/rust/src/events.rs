@@ -234,7 +234,7 @@ impl<'a> Iterator for PartEvents<'_, 'a> {
         }
         match self.batch.last.status {
             MORE | OK => None,
-            _ => Some(Err(self.machine.refused(self.batch.last.refusal))),
+            _ => Some(Err(Refused::of_parts(self.batch.last.refusal))),
         }
     }
 }

@@ -34,21 +34,30 @@
 //! ```
 //!
 //! The proved code is a library that this crate calls; the crate itself is tested. The library keeps
-//! no state, so any number of threads may call it at once. It allocates with C's `malloc`; values use
-//! Rust's allocator.
+//! no state but that of each [`Checker`], so any number of threads may call it at once. It allocates with
+//! C's `malloc`; values use Rust's allocator.
 //!
-//! [`Value`], [`View`], [`Kind`] and [`Step`] have all the variants that they will have. Other enums
-//! may get more, and [`Refused`] and [`Event`] more fields.
+//! The crate needs `std` only for [`check_reader`] and for a [`Checker`] that is a writer. Without the
+//! feature `std`, which is one of the default features, it is `no_std` with `alloc`.
+//!
+//! [`Value`], [`View`], [`Kind`], [`Step`] and [`Checked`] have all the variants that they will have.
+//! Other enums may get more, and [`Refused`] and [`Event`] more fields.
 #![no_std]
 #![warn(missing_docs)]
 // except for the calls of the library
 #![deny(unsafe_code)]
 
 extern crate alloc;
+#[cfg(feature = "std")]
+extern crate std;
 
 mod builder;
 #[allow(unsafe_code)]
 mod calls;
+#[allow(unsafe_code)]
+mod checker;
+#[cfg(feature = "std")]
+mod checker_io;
 mod containers;
 mod convert;
 mod events;
@@ -74,6 +83,9 @@ mod sequence;
 mod value;
 
 pub use calls::{canonicalise, canonicalise_into, check, check_canonical, diagnostic, same};
+pub use checker::{Checked, Checker};
+#[cfg(feature = "std")]
+pub use checker_io::check_reader;
 pub use containers::{Array, Tag};
 pub use events::{Event, Events, Kind, PartEvents};
 pub use get_error::GetError;

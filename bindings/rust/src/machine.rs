@@ -1,7 +1,7 @@
 //! The machine that reads an item in parts.
 
 use crate::events::{event_of, Event, PartEvents};
-use crate::options::{Options, WIDEST};
+use crate::options::Options;
 use crate::raw::{self, EVENT, MORE, OK};
 use crate::refused::Refused;
 
@@ -20,9 +20,9 @@ pub enum Step<'a> {
 
 /// A machine that reads one item in parts of any length, and returns its events. It allocates no memory.
 ///
-/// It checks that the item is well-formed, and not UTF-8, repeated keys or canonical encoding. It does
-/// not know where the parts end: after the last one, a step of no bytes says whether the item is
-/// complete.
+/// It checks that the item is well-formed, and not UTF-8, repeated keys or canonical encoding, as a
+/// [`Checker`](crate::Checker) does. It does not know where the parts end: after the last one, a step of
+/// no bytes says whether the item is complete.
 ///
 /// ```
 /// use naltvigo::{Kind, Machine, Options, Step};
@@ -80,14 +80,9 @@ impl Machine {
             EVENT => Step::Event(event_of(&space[0], part, begins)),
             MORE => Step::More,
             OK => Step::Done,
-            _ => Step::Refused(self.refused(taken.refusal)),
+            _ => Step::Refused(Refused::of_parts(taken.refusal)),
         };
         (taken.used, step)
-    }
-
-    // A refusal without a path, since the bytes before the part are gone.
-    pub(crate) fn refused(&self, refusal: raw::Refusal) -> Refused {
-        Refused::of(refusal, &[], &WIDEST)
     }
 
     /// Consumes a part, and whether the item needs more bytes.

@@ -1,6 +1,7 @@
 //! The exports of `naltvigo.h`. `scripts/header.py` compares numbers, structs and signatures with it.
 
 use crate::options::Options;
+use core::ffi::c_void;
 
 pub const OK: u32 = 0;
 pub const TOO_SMALL: u32 = 2;
@@ -39,6 +40,12 @@ pub struct Item {
     pub end: u64,
     pub kind: u32,
     pub entries: u32,
+}
+
+#[repr(C)]
+#[derive(Debug)]
+pub struct Checker {
+    pub memory: *mut c_void,
 }
 
 #[repr(C)]
@@ -215,4 +222,21 @@ extern "C" {
         key_length: usize,
         value: *mut Item,
     ) -> u32;
+    pub fn naltvigo_checker_new_raw(
+        order: u32,
+        keys: u32,
+        depth: u32,
+        bytes: u64,
+        checker: *mut Checker,
+    ) -> u32;
+    pub fn naltvigo_checker_restart_raw(order: u32, checker: *mut Checker) -> u32;
+    pub fn naltvigo_checker_take_raw(
+        checker: *mut Checker,
+        input: *const u8,
+        input_length: usize,
+        used: *mut usize,
+        refusal: *mut Refusal,
+    ) -> u32;
+    pub fn naltvigo_checker_end_raw(checker: *mut Checker, refusal: *mut Refusal) -> u32;
+    pub fn naltvigo_checker_free_raw(checker: *mut Checker) -> u32;
 }

@@ -1,5 +1,6 @@
 //! The items of a sequence that comes from a reader.
 
+use crate::checker::{Checked, Checker};
 use crate::machine::Machine;
 use crate::options::Options;
 use crate::reason::Reason;
@@ -45,7 +46,8 @@ where
 }
 
 /// The items of a sequence from a reader, each in its canonical bytes, as [`canonical_items`] gives
-/// those of a slice.
+/// those of a slice. An item that is not canonical is refused at the first wrong byte, without a further
+/// read.
 pub fn read_canonical_items<E, R>(read: R, options: &Options) -> ReadItems<R>
 where
     R: FnMut(&mut [u8]) -> Result<usize, E>,
@@ -56,13 +58,19 @@ where
     }
 }
 
-/// Why no item is given.
+/// Why no item is given, or accepted.
 #[derive(Clone, PartialEq, Eq)]
 pub enum ReadError<E> {
-    /// The item is refused; the offset counts from the item's first byte. This is the last result.
+    /// The item is refused; the offset counts from the item's first byte. An iterator ends with it.
     Refused(Refused),
-    /// `read` failed. The next call tries it again, and nothing is lost.
+    /// The reader failed. The next call of an iterator tries it again, and nothing is lost.
     Read(E),
+}
+
+impl<E> From<Refused> for ReadError<E> {
+    fn from(refused: Refused) -> ReadError<E> {
+        ReadError::Refused(refused)
+    }
 }
 
 impl<E: fmt::Display> fmt::Display for ReadError<E> {
@@ -88,11 +96,33 @@ pub struct ReadItems<R> {
     start: usize,
     end: usize,
     offset: u64,
-    // Of an item that is not all there: what takes its bytes as they come.
-    cut: Option<Box<Machine>>,
+    // Of an item that is not all there.
+    cut: Option<Cut>,
     ended: bool,
     canonical: bool,
     options: Options,
+}
+
+// Takes the bytes of an item as they come, so that each is looked at once.
+#[derive(Debug)]
+enum Cut {
+    // An item in any encoding: whether it is well-formed.
+    Any(Box<Machine>),
+    // So an item that is not canonical is refused where it is wrong, and no more of it is read.
+    Canonical(Checker),
+}
+
+impl Cut {
+    // Whether more bytes must follow these, of which it took some before.
+    fn needs_more(&mut self, came: &[u8]) -> bool {
+        match self {
+            Cut::Any(machine) => machine.needs_more(&came[machine.consumed() as usize..]),
+            Cut::Canonical(checker) => {
+                let rest = &came[checker.consumed() as usize..];
+                checker.take(rest) == Ok(Checked::More)
+            }
+        }
+    }
 }
 
 impl<R> ReadItems<R> {
@@ -104,12 +134,7 @@ impl<R> ReadItems<R> {
     // The item at the front. None if more bytes are needed, or none are left.
     fn front(&mut self) -> Option<Result<Vec<u8>, Refused>> {
         let came = &self.buffer[self.start..self.end];
-        if !self.ended
-            && self
-                .cut
-                .as_mut()
-                .is_some_and(|machine| machine.needs_more(&came[machine.consumed() as usize..]))
-        {
+        if !self.ended && self.cut.as_mut().is_some_and(|cut| cut.needs_more(came)) {
             return None;
         }
         let mut found = if self.canonical {
@@ -125,16 +150,31 @@ impl<R> ReadItems<R> {
                 self.offset += item.len() as u64;
                 Some(Ok(item))
             }
-            Err(refused) if refused.reason == Reason::Truncated && !self.ended => {
-                self.cut = Some(Box::new(Machine::new(&self.options)));
-                None
-            }
-            Err(refused) => {
-                self.start = self.end;
-                self.ended = true;
-                Some(Err(refused))
-            }
+            Err(refused) if refused.reason == Reason::Truncated && !self.ended => self.begin_cut(),
+            Err(refused) => self.refuse(refused),
         }
+    }
+
+    fn begin_cut(&mut self) -> Option<Result<Vec<u8>, Refused>> {
+        if self.cut.is_some() {
+            // what took the bytes had no memory for a key
+            return self.refuse(Refused::at(Reason::Memory, 0, &[], &self.options));
+        }
+        self.cut = Some(if self.canonical {
+            match Checker::new(&self.options) {
+                Ok(checker) => Cut::Canonical(checker),
+                Err(refused) => return self.refuse(refused),
+            }
+        } else {
+            Cut::Any(Box::new(Machine::new(&self.options)))
+        });
+        None
+    }
+
+    fn refuse(&mut self, refused: Refused) -> Option<Result<Vec<u8>, Refused>> {
+        self.start = self.end;
+        self.ended = true;
+        Some(Err(refused))
     }
 
     fn fill<E>(&mut self) -> Result<(), E>

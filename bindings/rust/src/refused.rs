@@ -3,7 +3,7 @@
 use crate::calls::explain;
 use crate::get_error::GetError;
 use crate::map::RepeatedKey;
-use crate::options::Options;
+use crate::options::{Options, WIDEST};
 use crate::raw;
 use crate::reader::ReadError;
 use crate::reason::Reason;
@@ -46,6 +46,11 @@ impl Refused {
         }
     }
 
+    // Of an item whose bytes are gone, so without a path.
+    pub(crate) fn of_parts(refusal: raw::Refusal) -> Refused {
+        Refused::of(refusal, &[], &WIDEST)
+    }
+
     pub(crate) fn at(reason: Reason, offset: u64, input: &[u8], options: &Options) -> Refused {
         let refusal = raw::Refusal {
             reason: reason.number().into(),
@@ -70,7 +75,8 @@ impl Refused {
     }
 
     /// Where in the item it is: `$."a"[1]` is the second member of the array at the key `"a"`, and `$` the
-    /// item itself. It is `$` as well if the bytes were not at hand: of a [`Machine`](crate::Machine).
+    /// item itself. It is `$` as well if the bytes were not at hand: of a [`Machine`](crate::Machine) or
+    /// a [`Checker`](crate::Checker).
     pub fn path(&self) -> &str {
         self.line(2)
     }

@@ -5,7 +5,9 @@
 //! is compared with another one that is measured just before or after it. Under an emulator, which the variable
 //! NALTVIGO_EMULATED names, no time is compared with a millisecond.
 
-use naltvigo::{check, read_items, Item, Map, Options, Order, Value, View};
+use naltvigo::{
+    check, check_canonical, read_items, Checker, Item, Map, Options, Order, Value, View,
+};
 use std::collections::HashSet;
 use std::env;
 use std::hint::black_box;
@@ -259,4 +261,38 @@ fn a_mebibyte_in_small_reads() {
         whole < 8 * part
     };
     assert!((0..3).any(is_fair));
+}
+
+// 4 MiB that come in packets take at most five times as long as in one part: nothing is read again.
+#[test]
+fn four_mebibytes_in_packets() {
+    const PACKET: usize = 1400;
+    let size = 4 * MIB;
+    let count = (size as u32).to_be_bytes();
+    let text = vec![b'a'; size];
+    let items = [
+        ("integers", [&[0x9a][..], &count, &vec![0; size]].concat()),
+        ("a key", [&[0xa1, 0x7a][..], &count, &text, &[0]].concat()),
+        ("keys", map_of((0..size as i64 / 6).map(Value::from))),
+    ];
+    for (name, item) in items {
+        let mut checker = Checker::new(&wide()).unwrap();
+        let mut by = |length: usize| {
+            time(3, || {
+                checker.restart();
+                for part in item.chunks(length) {
+                    checker.take(black_box(part)).unwrap();
+                }
+                assert_eq!(checker.end(), Ok(item.len() as u64));
+            })
+        };
+        // again if other processes disturbed it
+        let is_fair = |_| {
+            let check = time(3, || check_canonical(black_box(&item), &wide()).unwrap());
+            let (whole, packets) = (by(item.len()), by(PACKET));
+            println!("{name}: {packets:?}, in one part {whole:?}, by check_canonical {check:?}");
+            packets < 5 * whole
+        };
+        assert!((0..3).any(is_fair), "{name}");
+    }
 }

@@ -123,14 +123,45 @@ fn no_byte_is_waited_for() {
         .chain(arrays)
         .collect();
     let (input, end) = (items.concat(), items.concat().len() as u64);
-    let mut found = read_items(byte_by_byte(&input), &Options::default());
-    for item in items {
-        assert_eq!(found.next(), Some(Ok(item)));
+    for canonical in [false, true] {
+        let options = Options::default();
+        let mut found = if canonical {
+            read_canonical_items(byte_by_byte(&input), &options)
+        } else {
+            read_items(byte_by_byte(&input), &options)
+        };
+        for item in &items {
+            assert_eq!(found.next().as_ref(), Some(&Ok(item.clone())));
+        }
+        assert_eq!(
+            (found.offset(), found.next()),
+            (end, Some(Err(ReadError::Read("nothing more came"))))
+        );
     }
-    assert_eq!(
-        (found.offset(), found.next()),
-        (end, Some(Err(ReadError::Read("nothing more came"))))
-    );
+}
+
+// An item that is not canonical is refused at the first wrong byte, without a further read.
+#[test]
+fn no_byte_after_a_wrong_one() {
+    for (input, wanted) in [
+        (&b"\x83\x18\x00"[..], (Reason::NotShortest, 1, 3)),
+        // {"b": 0, "a": ..
+        (b"\xa2\x61b\x00\x61a", (Reason::KeyOrder, 4, 6)),
+        (b"\x82\x62a\xff", (Reason::InvalidText, 3, 4)),
+        (b"\x82\x00\x9f", (Reason::Indefinite, 2, 3)),
+    ] {
+        let input = [b"\x00", input].concat();
+        let mut found = read_canonical_items(byte_by_byte(&input), &Options::default());
+        assert_eq!(found.next(), Some(Ok(vec![0])));
+        match found.next() {
+            Some(Err(ReadError::Refused(why))) => {
+                assert_eq!((why.reason, why.offset, why.consumed), wanted);
+                assert!(why.path().len() > 1, "{}", why.path());
+            }
+            other => panic!("{other:?}"),
+        }
+        assert_eq!((found.offset(), found.next()), (1, None));
+    }
 }
 
 // A read that failed is tried again, and nothing is lost.

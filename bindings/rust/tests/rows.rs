@@ -1,94 +1,17 @@
-//! Each row of the repository's conformance tables, by each call that it speaks of. Their own text
-//! says what the columns are.
+//! Each row of the repository's conformance tables, by each call that it speaks of.
+
+mod tables;
 
 use naltvigo::{
-    canonical_items, canonicalise, canonicalise_into, check, check_canonical, diagnostic, items,
-    same, Item, Keys, NotWritten, Options, Order, Reason, Refused, Side, Value,
+    canonical_items, canonicalise, canonicalise_into, check, check_canonical, check_reader,
+    diagnostic, items, same, Item, Keys, NotWritten, Options, Order, ReadError, Reason, Side,
+    Value,
 };
-use std::fs;
-
-const TABLES: &str = concat!(
-    env!("CARGO_MANIFEST_DIR"),
-    "/../../crates/cbor_reader_tests/src/tests"
-);
-
-// The texts of the tables, in one.
-fn tables() -> String {
-    let files = fs::read_dir(TABLES).expect("the tables of the repository");
-    let paths = files.map(|file| file.unwrap().path());
-    paths
-        .filter(|path| path.to_str().unwrap().ends_with("_table.rt"))
-        .map(|path| fs::read_to_string(path).unwrap())
-        .collect()
-}
-
-// The lines of the tables with this many columns.
-fn lines(columns: usize) -> Vec<Vec<String>> {
-    let text = tables();
-    let lines = text.lines().filter(|line| !line.starts_with("//"));
-    let split = |line: &str| {
-        let parts: Vec<String> = line
-            .splitn(5, '|')
-            .map(|part| part.trim().to_owned())
-            .collect();
-        (parts.len() == columns).then_some(parts)
-    };
-    lines.filter_map(split).collect()
-}
-
-// The bytes of hex digits; `3*00` means 000000.
-fn unhex(column: &str) -> Vec<u8> {
-    let digits: String = column
-        .split_whitespace()
-        .map(|word| match word.split_once('*') {
-            Some((count, digits)) => digits.repeat(count.parse().unwrap()),
-            None => word.to_owned(),
-        })
-        .collect();
-    let byte = |at| u8::from_str_radix(&digits[at..at + 2], 16).unwrap();
-    (0..digits.len()).step_by(2).map(byte).collect()
-}
-
-// The number, the offset and the count of `12 Trailing at 1, read 1`.
-fn refusal(column: &str) -> Option<(u8, u64, u64)> {
-    let (number, rest) = column.split_once(' ')?;
-    let (_, rest) = rest.split_once(" at ")?;
-    let (offset, consumed) = rest.split_once(", read ")?;
-    Some((
-        number.parse().ok()?,
-        offset.parse().ok()?,
-        consumed.parse().ok()?,
-    ))
-}
-
-fn numbers(refused: Refused) -> (u8, u64, u64) {
-    (refused.reason.number(), refused.offset, refused.consumed)
-}
-
-fn limit(limits: &str, name: &str) -> Option<u64> {
-    let mut words = limits.split_whitespace().skip_while(|word| *word != name);
-    words.nth(1)?.trim_end_matches(',').parse().ok()
-}
-
-fn keys(limits: &str) -> Keys {
-    match limits.split_once("keys ") {
-        Some((_, kinds)) => {
-            assert_eq!(kinds, "basic");
-            Keys::IntegersAndTexts
-        }
-        None => Keys::Any,
-    }
-}
+use tables::{keys, lines, numbers, options_of, refusal, unhex};
 
 fn one_row(row: &[String], order: Order, column: usize) {
     let given = unhex(&row[0]);
-    let depth = limit(&row[1], "depth").unwrap_or(256) as u16;
-    let bytes = limit(&row[1], "bytes").unwrap_or(1 << 20);
-    let options = Options::default()
-        .with_limits(depth, bytes)
-        .unwrap()
-        .with_order(order)
-        .with_keys(keys(&row[1]));
+    let options = options_of(&row[1], order);
     let half = |of: &str| {
         let parts: Vec<&str> = of.split('/').map(str::trim).collect();
         parts[column.min(parts.len() - 1)].to_owned()
@@ -158,6 +81,13 @@ fn one_row(row: &[String], order: Order, column: usize) {
         None => Err(refusal(if strict.is_empty() { &plain } else { &strict }).unwrap()),
     };
     assert_eq!(found, wanted, "{row:?}");
+    let read = match check_reader(&given[..], &options) {
+        Ok(count) => Ok(count),
+        Err(ReadError::Refused(why)) => Err(numbers(why)),
+        Err(ReadError::Read(error)) => panic!("{error}"),
+    };
+    let length = given.len() as u64;
+    assert_eq!(read, wanted.map(|()| length), "{row:?}");
     // in a sequence nothing trails an item, and without a byte there is no item
     let trailing = Reason::Trailing.number();
     let first = match wanted {

@@ -4,7 +4,7 @@ use Rattle.std.specs.Option.{IfSome}
 use Rattle.cbor_head.specs.Prelude.{Bounds, bounds, with_keys, refusal}
 use Rattle.cbor_head.specs.declared.{event.Event.Event, order.KeyOrder.KeyOrder, reason.Refusal.Refusal, reason.Reason.TheVariants.Truncated}
 use Rattle.theory_automaton.specs.{Trace.Mark, Marks.marks_of}
-use Rattle.cbor_machine.specs.Machine.{KeepsLimits, IfRefused, IsMore, wanted}
+use Rattle.cbor_machine.specs.Machine.{KeepsLimits, IfRefused, IsMore, IsEvent, IsComplete, wanted}
 use Rattle.cbor_machine.specs.declared.step.Out.TheVariants as outs
 use Rattle.cbor_machine.proofs.Feeding.{rest_from, split-rest, fits-rest}
 use Rattle.cbor_machine.specs.declared.step.Out.{Out}
@@ -46,6 +46,7 @@ pub record IsChecked (old now : StrictMachineView) (input : List ℕ) (used : �
   pub keys : now.keys ≡ old.keys
   pub runs : (t : List ℕ) (ms : List Mark) → StandsAmid old t ms → (ns : List Mark) × StandsAmid now (t ++ take used input) ns
   pub same : IfSome old.refusal (λ f. (now ≡ old) × (used ≡ 0))
+  pub complete : IsComplete old.machine → old.refusal ≡ None → (now ≡ old) × (used ≡ 0)
 
 pub checked_first : (v : StrictMachineView) (input : List ℕ) → IsChecked v v input 0
 checked_first v input = record {
@@ -57,6 +58,7 @@ checked_first v input = record {
   keys = refl;
   runs = λ t ms h. (ms, subst (λ (x : List ℕ). StandsAmid v x ms) (sym (append-nil t)) h);
   same = all_some v.refusal (λ f. (v ≡ v) × (0 ≡ 0)) (λ f. (refl, refl));
+  complete = λ is live. (refl, refl);
 }
 
 module _ (old now new : StrictMachineView) (input : List ℕ) (used more : ℕ) (h : IsChecked old now input used) (fits : more ≤ length (rest_from used input)) (taken : new.machine.taken ≡ now.machine.taken + more) (limits : KeepsLimits now.machine new.machine) (order : new.order ≡ now.order) (keys : new.keys ≡ now.keys) where
@@ -72,9 +74,17 @@ module _ (old now new : StrictMachineView) (input : List ℕ) (used more : ℕ) 
   along : (t : List ℕ) → (t ++ take used input) ++ take more (rest_from used input) ≡ t ++ take (used + more) input
   along t = append_assoc t (take used input) (take more (rest_from used input)) ∙ ap (λ (x : List ℕ). t ++ x) (split-rest used more input)
 
+  -- nothing follows a complete item
+  pub done_so : (out : Out) → (IsComplete now.machine → now.refusal ≡ None → (out ≡ outs.Done) × (more ≡ 0)) → IsComplete old.machine → old.refusal ≡ None → (out ≡ outs.Done) × (used + more ≡ 0)
+  done_so out done is live =
+      let k = h.complete is live in
+      let d = done (subst (λ (v : StrictMachineView). IsComplete v.machine) (sym k.0) is) (ap (λ (v : StrictMachineView). v.refusal) k.0 ∙ live) in
+      (d.0, omega (arith, k.1, d.1))
+
   -- an event
-  pub checked_on : (ev : Event) → ((t : List ℕ) (ms : List Mark) → StandsAmid now t ms → IsStrictAnswer (outs.Event ev) new t (take more (rest_from used input)) ms) → IfSome now.refusal (λ f. (outs.Event ev ≡ outs.Refused f) × (more ≡ 0) × (new ≡ now)) → IsChecked old new input (used + more)
-  checked_on ev answers again = record {
+  pub checked_on : (ev : Event) → ((t : List ℕ) (ms : List Mark) → StandsAmid now t ms → IsStrictAnswer (outs.Event ev) new t (take more (rest_from used input)) ms) → IfSome now.refusal (λ f. (outs.Event ev ≡ outs.Refused f) × (more ≡ 0) × (new ≡ now))
+      → (IsComplete now.machine → now.refusal ≡ None → (outs.Event ev ≡ outs.Done) × (more ≡ 0)) → IsChecked old new input (used + more)
+  checked_on ev answers again done = record {
     within = within_so;
     taken = taken_so;
     depth = limits.depth ∙ h.depth;
@@ -83,6 +93,7 @@ module _ (old now new : StrictMachineView) (input : List ℕ) (used more : ℕ) 
     keys = keys ∙ h.keys;
     runs = λ t ms k. let r = h.runs t ms k in (r.0 ++ marks_of ev.width ev.kind, subst (λ (x : List ℕ). StandsAmid new x (r.0 ++ marks_of ev.width ev.kind)) (along t) (answers (t ++ take used input) r.0 r.1).1);
     same = map_some old.refusal _ (λ f. (new ≡ old) × (used + more ≡ 0)) (λ f k. absurd (cc k.0)) (again_so old now new (outs.Event ev) used more h.same again);
+    complete = λ is live. absurd (subst IsEvent (done_so (outs.Event ev) done is live).0 tt);
   }
 
   -- what is no event
@@ -103,7 +114,7 @@ module _ (old now new : StrictMachineView) (input : List ℕ) (used more : ℕ) 
 
 -- ---- where the bytes end
 
-limits_same : (old new : StrictMachineView) → KeepsLimits old.machine new.machine → new.keys ≡ old.keys → limits_of new ≡ limits_of old
+pub limits_same : (old new : StrictMachineView) → KeepsLimits old.machine new.machine → new.keys ≡ old.keys → limits_of new ≡ limits_of old
 limits_same old new limits keys = ap (λ (d : ℕ). with_keys (bounds d new.machine.bytes) new.keys) limits.depth ∙ ap (λ (n : ℕ). with_keys (bounds old.machine.depth n) new.keys) limits.bytes ∙ ap (with_keys (bounds old.machine.depth old.machine.bytes)) keys
 
 module _ (old new : StrictMachineView) (limits : KeepsLimits old.machine new.machine) (order : new.order ≡ old.order) (keys : new.keys ≡ old.keys) where
@@ -113,6 +124,10 @@ module _ (old new : StrictMachineView) (limits : KeepsLimits old.machine new.mac
   module _ (bs t : List ℕ) (ms : List Mark) (none : bs ≡ []) where
     all_so : t ++ bs ≡ t
     all_so = ap (λ (x : List ℕ). t ++ x) none ∙ append-nil t
+
+    -- the machine represents what it did before
+    pub stands_more : IsStrictAnswer outs.More new t bs ms → StandsAmid new t ms
+    stands_more a = subst (λ (x : List ℕ). StandsAmid new x ms) all_so a
 
     pub ends_done : (count : ℕ) → count ≡ length t → IsStrictAnswer outs.Done new t bs ms → EndsAs (limits_of old) old.order t (Ok count)
     ends_done count size a =

@@ -169,7 +169,11 @@ impl StrictMachine {
         ensures order { self.new.order ≡ self.old.order }
         ensures keys { self.new.keys ≡ self.old.keys }
         ensures more { IsMore result.out → result.used ≡ length input.now }
-        ensures refused { IfRefused result.out (λ f. self.new.refusal ≡ Some f) }
+        ensures refused { IfRefused result.out (λ f. (self.new.refusal ≡ Some f)
+            × (self.new.machine.taken ≡ f.read) × IsStrictReason self.old.order f.reason
+            × (self.new.spans ≡ 0) × (self.new.kept ≡ 0)) }
+        ensures complete { IsComplete self.old.machine → self.old.refusal ≡ None
+            → (result.out ≡ Out.Done) × (result.used ≡ 0) }
         ensures again { IfSome self.old.refusal (λ f. (result.out ≡ Out.Refused f)
             × (result.used ≡ 0) × (self.new ≡ self.old)) }
     {
@@ -191,6 +195,12 @@ impl StrictMachine {
     pub fn end(&mut self) -> Result<u64, Refusal>
         ensures says { (t : List ℕ) (ms : List Mark) → StandsAmid self.old t ms
             → EndsAs (limits_of self.old) self.old.order t result }
+        ensures limits { limits_of self.new ≡ limits_of self.old }
+        ensures order { self.new.order ≡ self.old.order }
+
+        // More bytes may follow all the same, if none was refused.
+        ensures stands { (t : List ℕ) (ms : List Mark) → StandsAmid self.old t ms
+            → self.new.refusal ≡ None → StandsAmid self.new t ms }
         ensures again { IfSome self.old.refusal (λ f. result ≡ Err f) }
     {
         let taken = self.taken();

@@ -9,9 +9,9 @@ use Rattle.cbor_machine.specs.declared.step.Out.TheVariants as outs
 use Rattle.cbor_machine.specs.{Machine.KeepsLimits, Machine.IsMore, declared.step.Out.Out}
 use Rattle.theory_verdicts.specs.Readers as readers
 use Rattle.cbor_reader.specs.WholeItem.{IsItemRefusal, unread, trailing}
-use Rattle.cborc_files.specs.Folder.{Files, KeepsFiles, IsThere}
 use Rattle.cbor_stream.specs.StrictMachine.{StrictMachineView, StandsAmid, limits_of}
 use Rattle.cbor_stream.specs.Said.{Tells, Says, SaysMore, SaysDone, SaysRefused}
+use Rattle.cborc_files.specs.Folder.{Files, KeepsFiles, IsThere}
 use Rattle.cborc_words.specs.declared.request.Options.{Options}
 use Rattle.cborc_commands.specs.inner.{Parts.PartsView, Parts.IsReadTo, Parts.IsNextPart, Sources.HasInput, Sources.HasNoInput, Sources.IsNoPart}
 use Rattle.cborc_commands.proofs.{Faults.refusal_is, Files.holds_there, ItemFaults.no_input, ReadParts.took, ReadParts.next_part, ReadParts.input_there, ReadParts.input_ended, ReadParts.no_input_there, ReadParts.no_next_part, ReadParts.weight, ReadParts.read_less, Sources.unread as not_read}

@@ -3,7 +3,7 @@
 ghost use Rattle.std.specs.Prelude.{◌≡◌, ◌⊎◌, Ok, Err, OnErr, IfOk, IfErr};
 ghost use Rattle.std.specs.Io.KnownBytes.{Keeps};
 ghost use Rattle.cborc_commands.specs.Answer.{IsDone, IsNotDone};
-ghost use Rattle.cborc_commands.specs.Fault.{end_status, status_number};
+ghost use Rattle.cborc_commands.specs.Fault.{end_status, fault_status, status_number};
 ghost use Rattle.cborc_files.specs.Folder.{KeepsFiles};
 ghost use Rattle.cborc_commands.specs.Outcome.{IsSilent, IsAnswered, IsAnsweredQuietly, IsReportedBy};
 
@@ -14,35 +14,36 @@ use crate::check_sequence::check_sequence;
 use crate::compare::compare;
 use crate::events::events;
 use crate::events_sequence::events_sequence;
-use crate::explanation::explain;
+use crate::explanation::{explain, explain_output};
 use crate::fault::Fault;
 use crate::show::show;
 use crate::show_sequence::show_sequence;
 use crate::status::Status;
 use cborc_files::{Folder, Recording, RecordingFolder};
-use cborc_words::{Action, Request, Task, Verbosity};
+use cborc_words::{Action, Request, Verbosity};
 use std::alloc::Global;
 use std::io::{self, Write};
 
-/// Performs the task, reports it in its verbosity, and returns the exit status. `out` is flushed
+/// Performs the request, reports it in this verbosity, and returns the exit status. `out` is flushed
 /// before that.
 pub fn perform<F: Folder, O: Write, E: Write>(
     alloc: Global,
-    task: &Task<'_>,
+    request: &Request<'_>,
+    verbosity: Verbosity,
     files: &mut F,
     out: &mut O,
     err: &mut E,
 ) -> u8
-    ensures { IsReportedBy task.now.verbosity task.now.request (F.held files.old)
+    ensures { IsReportedBy verbosity request.now (F.held files.old)
         (F.held files.new) (O.contents out.old) (O.contents out.new) result }
 {
-    match task.verbosity {
+    match verbosity {
         Verbosity::Plain => {
-            let ended = answer(alloc, &task.request, files, out, Retention::Nothing);
+            let ended = answer(alloc, request, files, out, Retention::Nothing);
             end(flushed(ended, out), err)
         }
-        Verbosity::Quiet => answer_quietly(alloc, &task.request, files, out),
-        Verbosity::Explained => answer_explained(alloc, &task.request, files, out, err),
+        Verbosity::Quiet => answer_quietly(alloc, request, files, out),
+        Verbosity::Explained => answer_explained(alloc, request, files, out, err),
     }
 }
 
@@ -129,6 +130,21 @@ pub fn end<E: Write>(ended: Result<Status, Fault<'_>>, err: &mut E) -> u8
         }
     };
     status as u8
+}
+
+/// Writes the line of a fault of standard output or of memory in this verbosity, and returns the
+/// status.
+pub fn end_in<E: Write>(verbosity: Verbosity, fault: Fault<'_>, err: &mut E) -> u8
+    ensures { result ≡ status_number (fault_status fault.entry) }
+{
+    let status = match verbosity {
+        Verbosity::Quiet => end(Err(fault), &mut io::sink()),
+        _ => end(Err(fault), err),
+    };
+    if let Verbosity::Explained = verbosity {
+        let _ = explain_output(&fault, err);
+    }
+    status
 }
 
 // Performs the request.

@@ -5,7 +5,7 @@ ghost use Rattle.cborc_commands.specs.inner.Explained.{cause_text, last_source};
 
 use crate::fault::Fault;
 use cbor_diag::write_sentences;
-use cbor_head::Refusal;
+use cbor_head::{Reason, Refusal};
 use cborc_files::{Cause, Folder, RecordingFolder, Visible, is_stream};
 use cborc_words::{Action, Options, Request};
 use std::alloc::Global;
@@ -49,9 +49,16 @@ pub(crate) fn explain<F: Folder, E: Write>(
                 None => Ok(()),
             }
         }
+        Fault::CannotPrint | Fault::Memory | Fault::NotText(_) => explain_output(fault, err),
+    }
+}
+
+/// The same for a fault of standard output or of memory, which is about no file.
+pub(crate) fn explain_output<E: Write>(fault: &Fault<'_>, err: &mut E) -> io::Result<()> {
+    match fault {
         Fault::CannotPrint => writeln!(err, "  Standard output is closed or full."),
         Fault::Memory => writeln!(err, "  Use a lower --bytes to need less memory."),
-        Fault::NotText(_) => Ok(()),
+        _ => Ok(()),
     }
 }
 
@@ -115,8 +122,15 @@ fn explain_refusal<E: Write>(
     err: &mut E,
 ) -> io::Result<()> {
     match read {
-        Some(item) => cbor_diag::explain(alloc, item, options.limits, refusal, err),
-        None => write_sentences(refusal.reason, err),
+        Some(item) => cbor_diag::explain(alloc, item, options.limits, refusal, err)?,
+        None => write_sentences(refusal.reason, err)?,
+    }
+    match refusal.reason {
+        Reason::TooLong | Reason::CanonicalTooLong => {
+            writeln!(err, "  The option --bytes sets the byte limit.")
+        }
+        Reason::TooDeep => writeln!(err, "  The option --depth sets the depth limit."),
+        _ => Ok(()),
     }
 }
 

@@ -1,6 +1,6 @@
 //! The subcommands of the program `cborc`, over any folder and any two outputs: check, canon, compare, show and events.
 //!
-//! The program calls [`perform`], which performs a [`Task`](cborc_words::Task) and returns the exit status. The contract of each subcommand
+//! The program calls [`perform`], which performs a [`Request`](cborc_words::Request) and returns the exit status. The contract of each subcommand
 //! says what it does by what the files hold. [`canon_in_memory`] is `canon` over [`FilesInMemory`](cborc_files::FilesInMemory).
 #![tactic(auto)]
 
@@ -27,7 +27,7 @@ mod source;
 mod status;
 mod texts;
 
-pub use answer::{end, flushed, perform};
+pub use answer::{end, end_in, flushed, perform};
 pub use fault::Fault;
 pub use in_memory::canon_in_memory;
 pub use status::Status;

@@ -1,3 +1,4 @@
 pub mod Run
+pub mod SeveralFiles
 pub mod Watched
 pub mod inner

@@ -5,7 +5,7 @@ use Rattle.clap.specs.declared.error.kind.ErrorKind.TheVariants as kinds
 use Rattle.clap.specs.{Words.Text, declared.error.kind.ErrorKind.ErrorKind}
 use Rattle.cborc_files.specs.Folder.{Files, KeepsFiles}
 use Rattle.cborc_words.specs.{declared.request.Task.Task, Words.AskFor, Words.HasFault}
-use Rattle.cborc_commands.specs.Outcome.{IsReportedBy}
+use Rattle.cborc_program.specs.SeveralFiles.{IsPerformed}
 
 -- the arguments request help or the version
 abbrev pub IsHelp : ErrorKind → Type 0
@@ -14,7 +14,7 @@ IsHelp kind = (kind ≡ kinds.DisplayHelp) ⊎ (kind ≡ kinds.DisplayVersion)
 -- what a run with these arguments leaves
 pub data IsRun (words : List Text) (old new : Option Files) (before after : Option (List ℕ)) (status : ℕ) : Type 0 where
   -- they request a task, and it is performed
-  answered : (task : Task) → AskFor words task → IsReportedBy task.verbosity task.request old new before after status
+  answered : (task : Task) → AskFor words task → IsPerformed task old new before after status
       → IsRun words old new before after status
   -- they request help, which standard output accepts or not
   helped : (kind : ErrorKind) → HasFault words kind → IsHelp kind → KeepsFiles old new → (status ≡ 0) ⊎ (status ≡ 3)

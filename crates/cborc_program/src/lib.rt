@@ -4,8 +4,10 @@
 //! call them with folders in memory. [`Watched`] tells `main` whether the reader of standard output closed it.
 #![tactic(auto)]
 
+mod labelled;
 mod no_text;
 mod program;
+mod several_files;
 mod watched;
 
 pub use no_text::fault_of_words;

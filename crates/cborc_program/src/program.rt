@@ -6,11 +6,13 @@ ghost use Rattle.clap.specs.Words.{kind_of};
 ghost use Rattle.cborc_files.specs.Folder.{KeepsFiles};
 ghost use Rattle.cborc_words.specs.Words.{parsed_words, texts_of};
 ghost use Rattle.cborc_program.specs.Run.{IsRun};
+ghost use Rattle.cborc_program.specs.SeveralFiles.{several, IsPerformed};
 ghost use Rattle.cborc_program.specs.inner.WordsEnd.{IsWordsEnd};
 
+use crate::several_files::check_each;
 use cborc_commands::{Fault, Status, end, flushed, perform};
 use cborc_files::Folder;
-use cborc_words::parse;
+use cborc_words::{Accepted, Action, Task, parse};
 use clap::error::ErrorKind;
 use std::alloc::Global;
 use std::io::Write;
@@ -34,11 +36,41 @@ pub fn run<F: Folder, O: Write, E: Write>(
     ensures unwritten { result ≡ 2 → Keeps (O.contents out.old) (O.contents out.new) }
 {
     match parse(alloc, words.as_slice()) {
-        Ok(task) => perform(alloc, &task, files, out, err),
+        Ok(task) => perform_task(alloc, &task, files, out, err),
         Err(error) => {
             let ended = explain_words(&error, out, err);
             end(flushed(ended, out), err)
         }
+    }
+}
+
+// Performs the task: `check` of several files, or one request.
+fn perform_task<F: Folder, O: Write, E: Write>(
+    alloc: Global,
+    task: &Task<'_>,
+    files: &mut F,
+    out: &mut O,
+    err: &mut E,
+) -> u8
+    ensures performed { IsPerformed task.now (F.held files.old) (F.held files.new)
+        (O.contents out.old) (O.contents out.new) result }
+    ensures range { result ≤ 3 }
+    ensures refused { result ≡ 1 → KeepsFiles (F.held files.old) (F.held files.new) }
+    ensures used_well { result ≢ 2 }
+{
+    match several(task) {
+        Some(accepted) => check_each(alloc, task, accepted, files, out, err),
+        None => perform(alloc, &task.request, task.verbosity, files, out, err),
+    }
+}
+
+// Which items the task accepts, if it is `check` of several files.
+fn several(task: &Task<'_>) -> Option<Accepted>
+    ensures { result ≡ several task.now }
+{
+    match task.request.action {
+        Action::Check(accepted) if task.files.len() > 1 => Some(accepted),
+        _ => None,
     }
 }
 

@@ -11,6 +11,7 @@ mod in_memory;
 mod items;
 mod refused;
 mod rows;
+mod several_files;
 mod streams;
 
 use cborc_files::{Cause, FileFault, Folder};
@@ -221,7 +222,7 @@ fn ran(alloc: Global, line: &str, files: &str) -> Result<Outcome, AllocError> {
     let mut out = Vec::with_capacity(alloc, 2048)?;
     let mut err = Vec::with_capacity(alloc, 2048)?;
     let (status, written) = run_with(alloc, line, files, &mut out, &mut err)?;
-    if status == 3 && err.as_slice() == b"out of memory\n".as_slice() && !line.contains("full") {
+    if status == 3 && err.ends_with(b"out of memory\n") && !line.contains("full") {
         return Err(AllocError);
     }
     Ok(Outcome {

@@ -3,8 +3,8 @@ use Rattle.std.specs.Prelude.{◌≡◌, ◌++◌, ◌∷◌, List, [], Some, tr
 use Rattle.std.specs.Borrow.{Bor}
 use Rattle.clap.specs.Words.{App, Rule, Shape, Text, new_rule}
 use Rattle.clap.specs.declared.builder.value_parser.ValueParser.TheVariants as parser
-use Rattle.clap.specs.{Simple.new_shape, declared.builder.action.ArgAction.TheVariants.Set, declared.builder.action.ArgAction.TheVariants.SetTrue}
-use Rattle.clap.specs.declared.builder.value_parser.ValueParser.{ValueParser}
+use Rattle.clap.specs.declared.builder.action.ArgAction.TheVariants.{Append, Set, SetTrue}
+use Rattle.clap.specs.{Simple.new_shape, declared.builder.value_parser.ValueParser.ValueParser}
 use Rattle.cbor_head.specs.declared.limits.TheConstants.{MAX_DEPTH}
 
 -- the option `--NAME`, without a value
@@ -18,6 +18,10 @@ file name = record (new_rule name) { action = Some Set; required = true }
 -- an argument with the default `-`
 abbrev pub input : Text → Rule
 input name = record (new_rule name) { action = Some Set; defaults = codes "-" ∷ [] }
+
+-- the same, with one value or more
+abbrev pub inputs : Text → Rule
+inputs name = record (new_rule name) { action = Some Append; defaults = codes "-" ∷ [] }
 
 -- the option `--NAME VALUE`, with its default
 abbrev pub option : Text → Text → ValueParser → Rule
@@ -80,7 +84,7 @@ events = subcommand (codes "events") (input (codes "FILE") ∷ flag (codes "anno
 -- the subcommand `check`
 abbrev pub check : Orders → Kinds → Shape
 check orders = subcommand (codes "check")
-    (input (codes "FILE") ∷ flag (codes "strict") ∷ sequence ∷ order orders ∷ [])
+    (inputs (codes "FILE") ∷ flag (codes "strict") ∷ sequence ∷ order orders ∷ [])
 
 -- the subcommand `canon`
 abbrev pub canon : Orders → Kinds → Shape

@@ -1,8 +1,8 @@
 -- What a command line requests, by the values that clap found for each argument.
-use Rattle.std.specs.Prelude.{ℕ, ◌≡◌, ◌≢◌, ◌≤◌, ◌⊎◌, List, Option, Some, None, IsSome, IsSomeAnd, Bool, true, false, ◌&&◌, ◌||◌, codes, if◌then◌else◌, option_map, option_and_then}
+use Rattle.std.specs.Prelude.{ℕ, ◌≡◌, ◌≢◌, ◌≤◌, ◌⊎◌, List, [], Option, Some, None, IsSome, IsSomeAnd, Bool, true, false, ◌&&◌, ◌||◌, codes, if◌then◌else◌, map, nat_lt, option_map, option_and_then, unwrap_or}
 use Rattle.std.specs.Str.Parse.{IsNumeral, digits_value, without_leading_plus}
-use Rattle.std.specs.Str.{bytes_eq}
-use Rattle.clap.specs.Words.{Row, Text, first_of, one_of}
+use Rattle.std.specs.{Borrow.Bor, List.count_by, Str.bytes_eq}
+use Rattle.clap.specs.Words.{Row, Text, all_of, first_of, one_of}
 use Rattle.cbor_head.specs.declared.{keys.Keys.Keys, keys.Keys.TheVariants.Any, keys.Keys.TheVariants.IntegersAndTexts, limits.TheConstants.MAX_DEPTH}
 use Rattle.cbor_head.specs.declared.order.KeyOrder.{KeyOrder, TheVariants.Bytewise, TheVariants.LengthFirst}
 use Rattle.cborc_files.specs.Folder.{is_stream}
@@ -80,14 +80,18 @@ HasTwoVerbosities rows =
     (one_of (codes "quiet") rows ≢ None) × (one_of (codes "quiet") rows ≢ Some (codes "false"))
     × (one_of (codes "explain") rows ≢ None) × (one_of (codes "explain") rows ≢ Some (codes "false"))
 
--- whether an action on this file would read standard input twice
-abbrev pub reads_twice : Action → List ℕ → Bool
-reads_twice (Compare right) source = is_stream source && is_stream right.now
-reads_twice _ source = false
+-- the files that `check` is given, in their order; no other subcommand has such a list
+abbrev pub files_given : Text × List Row → List Text
+files_given (name, rows) = if bytes_eq name (codes "check") then unwrap_or (all_of (codes "FILE") rows) [] else []
 
--- whether a request would
-abbrev pub reads_stream_twice : Request → Bool
-reads_stream_twice request = reads_twice request.action request.source.now
+-- whether an action on this file, or on these files, would read standard input twice
+abbrev pub reads_twice : Action → List ℕ → List (Bor Text) → Bool
+reads_twice (Compare right) source files = is_stream source && is_stream right.now
+reads_twice _ source files = nat_lt 1 (count_by (λ file. is_stream file.now) files)
+
+-- whether a task would
+abbrev pub reads_stream_twice : Task → Bool
+reads_stream_twice task = reads_twice task.request.action task.request.source.now task.files.items
 
 -- whether the file is a sequence of items: `--seq` is given
 pub record IsSequenceOf (rows : List Row) (sequence : Bool) : Type 0 where
@@ -145,6 +149,7 @@ IsComplete (name, rows) = HasFiles (name, rows) × HasOrder (name, rows) × HasL
 -- a subcommand with this name and these values requests this task, which reads standard input at most once, in one verbosity
 pub record AsksForTask (given : Text × List Row) (task : Task) : Type 0 where
   pub request : AsksFor given task.request
+  pub files : map (λ file. file.now) task.files.items ≡ files_given given
   pub verbosity : IsVerbosityOf given.1 task.verbosity
-  pub once : reads_stream_twice task.request ≡ false
+  pub once : reads_stream_twice task ≡ false
   pub one_verbosity : HasOneVerbosity given.1

@@ -4,8 +4,8 @@ use Rattle.std.specs.Str.{bytes_eq}
 use Rattle.clap.specs.Words.{App, IsAmong, Row, Text, fault_of, subcommand_of}
 use Rattle.clap.specs.declared.error.kind.ErrorKind.TheVariants.{ArgumentConflict, MissingSubcommand, ValueValidation}
 use Rattle.clap.specs.declared.error.kind.ErrorKind.{ErrorKind}
-use Rattle.cborc_words.specs.CommandLine.{reads_stream_twice, AsksFor, AsksForTask, HasNoByteCount, HasTwoVerbosities, IsComplete}
-use Rattle.cborc_words.specs.{declared.request.Request.Request, declared.request.Task.Task, Cli.IsGrammar}
+use Rattle.cborc_words.specs.CommandLine.{files_given, reads_stream_twice, AsksFor, AsksForTask, HasNoByteCount, HasTwoVerbosities, IsComplete}
+use Rattle.cborc_words.specs.{declared.request.Task.Task, Cli.IsGrammar}
 
 -- the bytes of each of these words
 abbrev pub texts_of : {Z : Type 0} → List (String Z) → List Text
@@ -29,9 +29,10 @@ pub record AskFor (words : List Text) (task : Task) : Type 0 where
 
 -- the subcommand would read standard input for two files
 pub record ReadsTwice (given : Text × List Row) : Type 0 where
-  pub request : Request
-  pub asks : AsksFor given request
-  pub twice : reads_stream_twice request ≡ true
+  pub task : Task
+  pub asks : AsksFor given task.request
+  pub files : map (λ file. file.now) task.files.items ≡ files_given given
+  pub twice : reads_stream_twice task ≡ true
 
 -- the arguments have a usage error of this kind; a request for help or for the version counts as one
 pub data HasFault (words : List Text) (kind : ErrorKind) : Type 0 where

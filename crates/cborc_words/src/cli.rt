@@ -62,8 +62,8 @@ fn check<'a>(alloc: Global) -> Result<Command<'a>, AllocError>
     ensures { IfOk result (λ command. (orders : Orders) × (kinds : Kinds) × HasShape (grammar.check orders kinds) command) }
 {
     let command = Command::new(alloc, "check")
-        .about("Checks that FILE is one valid item, or a sequence of them")
-        .arg(input(alloc, "FILE", "The file to read, or - for standard input"))?
+        .about("Checks that each FILE is one valid item, or a sequence of them")
+        .arg(inputs(alloc, "FILE", "The files to read, or - for standard input"))?
         .arg(flag(alloc, "strict", "Accept only canonical bytes"))?
         .arg(sequence(alloc))?
         .arg(order(alloc, "The order of map keys, with --strict"))?;
@@ -150,6 +150,13 @@ fn input<'a>(alloc: Global, name: &'a str, help: &'a str) -> Arg<'a>
         .action(ArgAction::Set)
         .default_value("-")
         .help(help)
+}
+
+// The same, with one value or more.
+fn inputs<'a>(alloc: Global, name: &'a str, help: &'a str) -> Arg<'a>
+    ensures { HasRule (grammar.inputs name.entry.now) result }
+{
+    input(alloc, name, help).action(ArgAction::Append)
 }
 
 fn flag<'a>(alloc: Global, name: &'a str, help: &'a str) -> Arg<'a>

@@ -1,8 +1,10 @@
 //! Parses the arguments of the command line.
 
-ghost use Rattle.std.specs.Prelude.{◌≡◌, ◌≢◌, codes, false, true, IfErr, IfOk, IfSome, IsSome, IsSomeAnd};
-ghost use Rattle.clap.specs.Words.{first_of, found_of, kind_of, rows_of, subcommand_rows_of};
-ghost use Rattle.cborc_words.specs.CommandLine.{keys_named, order_named, AsksFor, HasLimits, HasNoByteCount, HasOneVerbosity, HasTwoVerbosities, reads_stream_twice, IsAcceptedOf, IsComplete, IsEventStyleOf, IsTextStyleOf, IsVerbosityOf, IsOptionsOf, IsOutputOf};
+ghost use Rattle.std.specs.Prelude.{◌≡◌, ◌≢◌, [], codes, false, map, true, unwrap_or, IfErr, IfOk, IfSome, IsSome, IsSomeAnd};
+ghost use Rattle.std.specs.List.{count_by};
+ghost use Rattle.clap.specs.Words.{all_of, first_of, found_of, kind_of, rows_of, subcommand_rows_of};
+ghost use Rattle.cborc_files.specs.Folder.{is_stream};
+ghost use Rattle.cborc_words.specs.CommandLine.{files_given, keys_named, order_named, AsksFor, HasLimits, HasNoByteCount, HasOneVerbosity, HasTwoVerbosities, reads_stream_twice, IsAcceptedOf, IsComplete, IsEventStyleOf, IsTextStyleOf, IsVerbosityOf, IsOptionsOf, IsOutputOf};
 ghost use Rattle.cborc_words.specs.Words.{asks_help_of_help, parsed_words as words_parsed, texts_of, AskFor, HasFault};
 
 use crate::byte_counts::byte_count;
@@ -14,7 +16,7 @@ use cbor_head::{KeyOrder, Keys, Limits};
 use cborc_files::is_stream;
 use clap::error::ErrorKind;
 use clap::{ArgMatches, Error};
-use std::alloc::Global;
+use std::alloc::{AllocError, Global};
 
 /// Parses the arguments, of which the first is the program's name. The error is a usage error, a
 /// request for help, or out of memory; its kind says which.
@@ -30,7 +32,8 @@ pub fn parse<'a>(alloc: Global, words: &'a [String]) -> Result<Task<'a>, Error>
         let message = format!(in alloc; "invalid value '{word}' for '--bytes <count>': {BYTES}")?;
         return Err(command.error(ErrorKind::ValueValidation, message.as_str())?);
     }
-    let Some(task) = task_of(&matches) else {
+    let files = files_given(alloc, &matches)?;
+    let Some(task) = task_of(&matches, files) else {
         // Unreachable: clap has checked that each argument exists and is in range. The types do not say so.
         return Err(command.error(ErrorKind::MissingSubcommand, "an argument is missing")?);
     };
@@ -38,7 +41,7 @@ pub fn parse<'a>(alloc: Global, words: &'a [String]) -> Result<Task<'a>, Error>
         let message = "the argument '--quiet' cannot be used with '--explain'";
         return Err(command.error(ErrorKind::ArgumentConflict, message)?);
     }
-    if reads_stream_twice(&task.request) {
+    if reads_stream_twice(&task) {
         let message = "standard input is read once: '-' cannot be given twice";
         return Err(command.error(ErrorKind::ArgumentConflict, message)?);
     }
@@ -66,14 +69,27 @@ fn asks_help_of_help(subcommand: &str, flag: &str) -> bool
     subcommand == "help" && (flag == "--help" || flag == "-h")
 }
 
-// Whether the request would read standard input for two files.
-fn reads_stream_twice(request: &Request<'_>) -> bool
-    ensures { result ≡ reads_stream_twice request.now }
+// Whether the task would read standard input for two files.
+fn reads_stream_twice(task: &Task<'_>) -> bool
+    ensures { result ≡ reads_stream_twice task.now }
 {
-    match &request.action {
-        Action::Compare { right } => is_stream(request.source) && is_stream(right),
-        _ => false,
+    match &task.request.action {
+        Action::Compare { right } => is_stream(task.request.source) && is_stream(right),
+        _ => streams_among(task.files.as_slice()) > 1,
     }
+}
+
+// How many of the files are standard input.
+fn streams_among(files: &[&str]) -> usize
+    ensures { result ≡ count_by (λ file. is_stream file.now) files.now }
+{
+    let mut count = 0;
+    'files: for file in files {
+        if is_stream(file) {
+            count += 1;
+        }
+    }
+    count
 }
 
 // Whether the value of `--bytes` is not a number of bytes.
@@ -132,15 +148,42 @@ fn are_two_verbosities(given: &ArgMatches<'_>) -> bool
     given.get_flag("quiet") && given.get_flag("explain")
 }
 
-fn task_of<'a>(matches: &ArgMatches<'a>) -> Option<Task<'a>>
+// The files of `check`, in the order of the command line. There are none for any other subcommand.
+fn files_given<'a>(alloc: Global, matches: &ArgMatches<'a>) -> Result<Vec<&'a str>, AllocError>
+    ensures { IfOk result (λ files. IfSome (subcommand_rows_of matches.now)
+        (λ given. map (λ file. file.now) files.items ≡ files_given given)) }
+{
+    match matches.subcommand() {
+        Some(("check", given)) => values_of_file(alloc, given),
+        _ => Ok(Vec::new(alloc)),
+    }
+}
+
+#[tactic(auto, using(crate::proofs::Rows::getters))]
+fn values_of_file<'a>(alloc: Global, given: &ArgMatches<'a>) -> Result<Vec<&'a str>, AllocError>
+    ensures { IfOk result (λ files. map (λ file. file.now) files.items
+        ≡ unwrap_or (all_of (codes "FILE") (rows_of (found_of given.now))) []) }
+{
+    match given.get_raw("FILE") {
+        Some(files) => Vec::from_slice(alloc, files),
+        None => Ok(Vec::new(alloc)),
+    }
+}
+
+fn task_of<'a>(matches: &ArgMatches<'a>, files: Vec<&'a str>) -> Option<Task<'a>>
     ensures value { IfSome result (λ task. IsSomeAnd (subcommand_rows_of matches.now)
         (λ given. AsksFor given task.request × IsVerbosityOf given.1 task.verbosity)) }
+    ensures files { IfSome result (λ task. task.files ≡ files.entry) }
     ensures some { IfSome (subcommand_rows_of matches.now)
         (λ given. IsComplete given → IsSome result) }
 {
     let verbosity = verbosity_asked(matches)?;
     match request_of(matches) {
-        Some(request) => Some(Task { request, verbosity }),
+        Some(request) => Some(Task {
+            request,
+            files,
+            verbosity,
+        }),
         None => None,
     }
 }

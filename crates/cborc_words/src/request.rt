@@ -5,8 +5,10 @@ use cbor_head::{KeyOrder, Limits};
 /// What a command line requests, and how it is reported.
 #[derive(Debug, Drop)]
 pub struct Task<'a> {
-    /// The request.
+    /// The request, for the first file.
     pub request: Request<'a>,
+    /// All files of `check`, in the order of the command line. Empty for any other subcommand.
+    pub files: Vec<&'a str>,
     /// How it is reported.
     pub verbosity: Verbosity,
 }

@@ -1,3 +1,4 @@
+mod Checked
 mod Compared
 mod Explained
 mod Given

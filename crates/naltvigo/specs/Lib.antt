@@ -1,3 +1,4 @@
+pub mod Checker
 pub mod Checking
 pub mod Comparing
 pub mod Diagnosing

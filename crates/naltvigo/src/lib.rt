@@ -1,7 +1,7 @@
 //! The library for C: each export of `include/naltvigo.h`, with the clauses of the call beneath it.
 //!
 //! Programs in C, and the bindings for other languages, call it. An export returns a status and writes what the status calls
-//! for. It keeps nothing between calls, and reads and writes only what it is passed.
+//! for. It keeps nothing between calls but the machines of checkers, and reads and writes only what it is passed.
 //!
 //! ```text
 //! naltvigo_canonicalise_raw of bf 63 46 75 6e f5 63 41 6d 74 21 ff  {"Fun": true, "Amt": -2}
@@ -13,6 +13,7 @@
 
 mod buffer;
 mod canonicalising;
+mod checker;
 mod checking;
 mod comparing;
 mod diagnosing;
@@ -29,6 +30,10 @@ mod streaming;
 mod writing;
 
 pub use canonicalising::naltvigo_canonicalise_raw;
+pub use checker::{
+    naltvigo_checker_end_raw, naltvigo_checker_free_raw, naltvigo_checker_new_raw,
+    naltvigo_checker_restart_raw, naltvigo_checker_take_raw,
+};
 pub use checking::{naltvigo_check_canonical_raw, naltvigo_check_valid_raw};
 pub use comparing::naltvigo_compare_raw;
 pub use diagnosing::naltvigo_diagnostic_raw;

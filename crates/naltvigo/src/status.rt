@@ -63,6 +63,7 @@ pub(crate) fn reported(refusal: Refusal) -> NaltvigoRefusal
 pub(crate) fn report(refusal: Refusal, out: &mut NaltvigoRefusal) -> u32
     ensures reported { IsReported refusal out.new }
     ensures refused { result ≡ REFUSED → refusal.reason ≢ reasons.Memory }
+    ensures memory { result ≡ NO_MEMORY → refusal.reason ≡ reasons.Memory }
     ensures no_memory { result ≡ NO_MEMORY → ReportsMemoryAtStart refusal → ReportsMemory 0 out.new }
     ensures statuses { (result ≡ REFUSED) ⊎ (result ≡ NO_MEMORY) }
 {

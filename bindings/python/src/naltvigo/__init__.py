@@ -37,6 +37,7 @@ if "t" in getattr(sys, "abiflags", ""):
 
 from ._native import (
     VERSION,
+    Checker,
     FrozenDict,
     FrozenList,
     Simple,
@@ -53,7 +54,7 @@ from ._native import (
 )
 from ._files import canonicalise_items, dump, items, load
 from ._refused import Refused, path_of
-from ._streams import Event, events
+from ._streams import Event, check_stream, events
 from ._values import Encoded, undefined
 
 Mapping.register(FrozenDict)
@@ -62,6 +63,7 @@ Sequence.register(FrozenList)
 __version__: str = VERSION
 
 __all__ = [
+    "Checker",
     "Encoded",
     "Event",
     "FrozenDict",
@@ -73,6 +75,7 @@ __all__ = [
     "canonicalise_items",
     "check",
     "check_canonical",
+    "check_stream",
     "diagnostic",
     "dump",
     "dumps",

@@ -51,7 +51,7 @@ def load(
     >>> load(io.BytesIO(b"\\x82\\x01\\x02"))
     [1, 2]
     """
-    data = _Reader(file).take(max_bytes + 1)
+    data = Reader(file).take(max_bytes + 1)
     options: Any = dict(canonical=canonical, order=order, depth=depth, max_bytes=max_bytes, keys=keys)
     return _native.loads(data, tag_hook=tag_hook, map_hook=map_hook, **options)
 
@@ -122,7 +122,7 @@ def items(
     if is_buffer(data):
         return _native.items(data, offsets=offsets, **options)  # type: ignore[arg-type]
     _native.items(b"", offsets=offsets, **options)  # wrong options are refused at once
-    return _items(_Reader(data), offsets, options)
+    return _items(Reader(data), offsets, options)
 
 
 @overload
@@ -152,7 +152,7 @@ def canonicalise_items(
     if is_buffer(data):
         return _native.canonicalise_items(data, **options)  # type: ignore[arg-type]
     _native.canonicalise_items(b"", **options)
-    return _canonical_parts(_Reader(data), options)
+    return _canonical_parts(Reader(data), options)
 
 
 def _bytes_of(chunk: ReadableBuffer) -> bytes:
@@ -169,7 +169,7 @@ def is_buffer(data: object) -> bool:
     return True
 
 
-class _Reader:
+class Reader:
     """The bytes of a file, or of chunks."""
 
     def __init__(self, source: Any) -> None:
@@ -178,7 +178,7 @@ class _Reader:
         self._file = source if hasattr(source, "read") else None
         self._chunks = iter(()) if self._file else iter(source)
 
-    def _next(self, most: int) -> bytes:
+    def next(self, most: int) -> bytes:
         """Some bytes: at most this number from a file, a whole chunk from an iterable; b"" at the end."""
         if self._file:
             return _bytes_of(self._file.read(min(most, PART)))
@@ -187,7 +187,7 @@ class _Reader:
     def take(self, count: int) -> bytes:
         """This number of bytes, or more if chunks have more; fewer only at the end."""
         parts, length = [], 0
-        while length < count and (part := self._next(count - length)):
+        while length < count and (part := self.next(count - length)):
             parts.append(part)
             length += len(part)
         return b"".join(parts)
@@ -197,7 +197,7 @@ class _Windows:
     """A sequence in parts. What a part does not end is read again with the next one, which has at least as many bytes, so
     an item is read at most twice as often as its bytes come."""
 
-    def __init__(self, reader: _Reader) -> None:
+    def __init__(self, reader: Reader) -> None:
         self.reader, self.pending, self.start, self.count = reader, b"", 0, 0
 
     def next(self) -> tuple[bytes, bool]:
@@ -214,7 +214,7 @@ class _Windows:
         return refused.at(self.count + (refused.item or 1), self.start + (refused.start or 0))
 
 
-def _items(reader: _Reader, offsets: bool, options: Any) -> Iterator[Any]:
+def _items(reader: Reader, offsets: bool, options: Any) -> Iterator[Any]:
     windows, has_more = _Windows(reader), True
     while has_more:
         part, has_more = windows.next()
@@ -229,7 +229,7 @@ def _items(reader: _Reader, offsets: bool, options: Any) -> Iterator[Any]:
         windows.use(end, count)
 
 
-def _canonical_parts(reader: _Reader, options: Any) -> Iterator[tuple[bytes, array[int]]]:
+def _canonical_parts(reader: Reader, options: Any) -> Iterator[tuple[bytes, array[int]]]:
     windows, has_more = _Windows(reader), True
     while has_more:
         part, has_more = windows.next()

@@ -1,15 +1,17 @@
-"""The events of an item whose bytes come in chunks."""
+"""One item whose bytes come in chunks: its events, and its strict check."""
 
 from __future__ import annotations
 
 from collections.abc import Iterable, Iterator
-from typing import TYPE_CHECKING, NamedTuple
+from typing import TYPE_CHECKING, Any, NamedTuple
 
-from ._files import is_buffer
-from ._native import EVENT, MORE, OK, Machine, start_machine
+from ._files import Reader, is_buffer
+from ._native import EVENT, MORE, OK, Checker, Machine, check_canonical, refusal, start_machine
 
 if TYPE_CHECKING:
     from _typeshed import ReadableBuffer
+
+    from ._files import Keys, Order, Source
 
 KINDS = ("unsigned", "negative", "bytes", "text", "array", "map", "tag", "simple", "chunk", "piece", "break")
 
@@ -61,19 +63,49 @@ def _events(machine: Machine, chunks: Iterable[ReadableBuffer]) -> Iterator[Even
         part = chunk if type(chunk) is bytes else bytes(memoryview(chunk))
         status, at = EVENT, 0
         while status == EVENT:
-            status, used, reported, refusal = machine.take(part, at)
+            status, used, reported, refused = machine.take(part, at)
             at += used
             for offset, kind, number, width, data in reported:
                 yield Event(offset, KINDS[kind], number, width, data)
-        if refusal:
-            raise refusal
+        if refused:
+            raise refused
         if status == OK and at < len(part):
-            raise machine.refusal(TRAILING)
+            raise refusal(TRAILING, machine.consumed)
     if status == MORE:
-        raise machine.refusal(TRUNCATED)
+        raise refusal(TRUNCATED, machine.consumed)
 
 
 def _and_nothing(chunks: Iterable[ReadableBuffer]) -> Iterator[ReadableBuffer]:
     # after the last chunk a machine still reports that the byte limit was reached
     yield from chunks
     yield b""
+
+
+def check_stream(
+    source: Source, *, order: Order = "bytewise", depth: int = 64, max_bytes: int = 1 << 20, keys: Keys = "any"
+) -> int:
+    """Returns the number of bytes that a source has, if they are one valid item in its canonical bytes. Raises Refused otherwise.
+
+    `source` is a file that was opened to read bytes, or an iterable of buffers, cut anywhere. A refusal has the reason and the
+    offset that `check_canonical` reports of all bytes, and no path. It comes at the first wrong byte, and no more is read then.
+    At most one byte more than `max_bytes` is read from a file. At most 64 KiB of it are in memory, or one buffer of an
+    iterable, and the keys that a Checker stores. If `source` is one buffer, it is checked by `check_canonical`.
+
+    >>> import io
+    >>> check_stream(io.BytesIO(b"\\x82\\x18\\x64\\x01"))      # [100, 1]
+    4
+    >>> check_stream([b"\\x82\\x18", b"\\x64\\x01", b"\\x00"])
+    Traceback (most recent call last):
+      ...
+    naltvigo.Refused: refused 12 Trailing at 4: ...
+    """
+    options: Any = dict(order=order, depth=depth, max_bytes=max_bytes, keys=keys)
+    if is_buffer(source):
+        length = memoryview(source).nbytes  # type: ignore[arg-type]
+        check_canonical(source, **options)  # type: ignore[arg-type]
+        return length
+    checker, reader = Checker(**options), Reader(source)
+    while part := reader.next(max_bytes + 1 - checker.consumed):
+        if checker.feed(part) and checker.used < len(part):
+            raise refusal(TRAILING, checker.consumed)
+    return checker.end()

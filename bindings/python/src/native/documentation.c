@@ -125,6 +125,34 @@ const char loads_doc[] =
 const char start_machine_doc[] = "start_machine(*, depth=64, max_bytes=1048576" SIGNATURE_END
                                  "A Machine before an item's first byte, as `events` starts one.\n";
 
+const char refusal_doc[] = "refusal(reason, offset" SIGNATURE_END
+                           "A Refused of an item whose bytes came in parts, and which is wrong at this offset.\n";
+
+const char checker_doc[] =
+    "Checker(*, order='bytewise', " LIMITS_WORDS SIGNATURE_END
+    "Checks one item whose bytes come in parts: whether it is valid, and in its canonical bytes.\n\n"
+    "`feed(part)` consumes bytes of a buffer, and returns whether the item is complete. `used` is then the number of bytes of\n"
+    "this part that belong to the item, and `consumed` the number of all its bytes. Bytes after the item are not used. `end()`\n"
+    "says that no byte follows, and returns `consumed`.\n\n"
+    "Wherever the parts begin, `feed` raises the Refused that `check_canonical` raises for all bytes so far, unless that is\n"
+    "Truncated or Trailing, and without a path. `end` raises Refused also if the item is not complete, after which more bytes may\n"
+    "follow. Any other refusal stays: each further call raises it again. `restart()` goes on with another item, with the same\n"
+    "options, also after a refusal. After a MemoryError it is needed.\n\n"
+    "Of the item only the last key of each open map is stored, and all of a key that is not complete. Memory that may change is\n"
+    "copied first. A Checker is for one thread at a time: a call during another one is a ValueError.\n\n"
+    ">>> checker = Checker()\n"
+    ">>> checker.feed(b'\\x82\\x18'), checker.feed(b'\\x64'), checker.feed(b'\\x01\\xff')      # [100, 1] and another byte\n"
+    "(False, False, True)\n"
+    ">>> checker.used, checker.consumed, checker.complete\n"
+    "(1, 4, True)\n"
+    ">>> checker.restart()\n"
+    ">>> checker.feed(b'\\x82\\x18')\n"
+    "False\n"
+    ">>> checker.feed(b'\\x05\\x01')\n"
+    "Traceback (most recent call last):\n"
+    "  ...\n"
+    "naltvigo.Refused: refused 14 NotShortest at 1: ...\n";
+
 const char simple_doc[] =
     "Simple(number)\n--\n\n"
     "A simple value: 0 to 19, or 32 to 255. The four between are False, True, None and undefined.\n\n"

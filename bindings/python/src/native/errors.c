@@ -42,6 +42,9 @@ static PyObject *lines_of(const struct refused *of, const struct naltvigo_refusa
     return lines;
 }
 
+static const struct options widest = {.bytes = NALTVIGO_BYTES_MAX};
+const struct refused forgotten_bytes = {.bytes = (const uint8_t *)"", .options = &widest};
+
 PyObject *new_refused(const struct state *state, const struct naltvigo_refusal *refusal, const struct refused *of) {
     uint8_t name[NALTVIGO_NAME_MAX];
     const size_t length = naltvigo_reason_name_raw(refusal->reason, name, sizeof name);
@@ -61,6 +64,18 @@ PyObject *new_refused(const struct state *state, const struct naltvigo_refusal *
     Py_XDECREF(start);
     Py_DECREF(lines);
     return error;
+}
+
+FUNCTION(refusal) {
+    static const struct signature signature = {"refusal", {"reason", "offset"}, 0};
+    const struct state *state = PyModule_GetState(module);
+    struct options options;
+    PyObject *operands[2];
+    if (read_arguments(state, &signature, arguments, count, names, operands, &options)) return NULL;
+    const unsigned long reason = PyLong_AsUnsignedLong(operands[0]);
+    const uint64_t offset = PyErr_Occurred() ? 0 : PyLong_AsUnsignedLongLong(operands[1]);
+    const struct naltvigo_refusal refusal = {(uint32_t)reason, offset, offset};
+    return PyErr_Occurred() ? NULL : new_refused(state, &refusal, &forgotten_bytes);
 }
 
 void *raise_status(const struct state *state, uint32_t status, const struct naltvigo_refusal *refusal,

@@ -36,13 +36,6 @@ static PyObject *list_of(const struct naltvigo_event *events, size_t count, cons
     return list;
 }
 
-/* Refused, without a path: the bytes are gone. */
-static PyObject *refused_at(PyObject *machine, const struct naltvigo_refusal *refusal) {
-    const struct options options = {.bytes = NALTVIGO_BYTES_MAX};
-    const struct refused of = {.bytes = (const uint8_t *)"", .options = &options};
-    return new_refused(PyType_GetModuleState(Py_TYPE(machine)), refusal, &of);
-}
-
 static PyObject *machine_take(PyObject *object, PyObject *arguments) {
     struct machine *self = (struct machine *)object;
     struct naltvigo_event events[EVENTS];
@@ -61,14 +54,8 @@ static PyObject *machine_take(PyObject *object, PyObject *arguments) {
     PyObject *list = list_of(events, count, (const uint8_t *)part, begins);
     if (!list) return NULL;
     if (status != NALTVIGO_REFUSED) return Py_BuildValue("(InNO)", status, (Py_ssize_t)used, list, Py_None);
-    return Py_BuildValue("(InNN)", status, (Py_ssize_t)used, list, refused_at(object, &refusal));
-}
-
-/* The refusal of an item that is not over, or that bytes follow. */
-static PyObject *machine_refusal(PyObject *object, PyObject *reason) {
-    const uint64_t consumed = ((struct machine *)object)->machine.consumed;
-    const struct naltvigo_refusal refusal = {(uint32_t)PyLong_AsUnsignedLong(reason), consumed, consumed};
-    return PyErr_Occurred() ? NULL : refused_at(object, &refusal);
+    return Py_BuildValue("(InNN)", status, (Py_ssize_t)used, list,
+                         new_refused(PyType_GetModuleState(Py_TYPE(object)), &refusal, &forgotten_bytes));
 }
 
 static PyMemberDef members[] = {{"consumed", T_ULONGLONG,
@@ -79,8 +66,6 @@ static PyMethodDef methods[] = {{"take", machine_take, METH_VARARGS,
                                  "take(part, at): reads the bytes of this part from an offset on. Returns the status of the "
                                  "library, the number of\n"
                                  "bytes read, the events as tuples, and None or a Refused."},
-                                {"refusal", machine_refusal, METH_O,
-                                 "refusal(reason): a Refused after the bytes that were read."},
                                 {NULL, NULL, 0, NULL}};
 static PyType_Slot slots[] = {
     {Py_tp_dealloc, machine_dealloc}, {Py_tp_members, members}, {Py_tp_methods, methods}, {0, NULL}};

@@ -9,7 +9,7 @@
 static PyMethodDef methods[] = {
     CALL(canonicalise), CALL(check),         CALL(check_canonical), CALL(is_canonical),       CALL(same),
     CALL(diagnostic),   CALL(items),         CALL(item_ends),       CALL(canonicalise_items), CALL(dumps),
-    CALL(loads),        CALL(start_machine), {NULL, NULL, 0, NULL}};
+    CALL(loads),        CALL(start_machine), CALL(refusal),         {NULL, NULL, 0, NULL}};
 
 static PyObject *from(const char *module, const char *name) {
     PyObject *imported = PyImport_ImportModule(module);
@@ -61,6 +61,7 @@ static int add_names(PyObject *module, const struct state *state) {
            add(module, "FrozenList", Py_NewRef((PyObject *)state->frozen_list)) ||
            add(module, "FrozenDict", Py_NewRef((PyObject *)state->frozen_dict)) ||
            add(module, "Machine", Py_NewRef((PyObject *)state->machine)) ||
+           add(module, "Checker", Py_NewRef((PyObject *)state->checker)) ||
            PyModule_AddIntConstant(module, "OK", NALTVIGO_OK) ||
            PyModule_AddIntConstant(module, "EVENT", NALTVIGO_EVENT) ||
            PyModule_AddIntConstant(module, "MORE", NALTVIGO_MORE) ||
@@ -77,7 +78,8 @@ static int execute(PyObject *module) {
                         (state->frozen_list = make_type(module, &frozen_list_spec)) &&
                         (state->frozen_dict = make_type(module, &frozen_dict_spec)) &&
                         (state->items = make_type(module, &items_spec)) &&
-                        (state->machine = make_type(module, &machine_spec));
+                        (state->machine = make_type(module, &machine_spec)) &&
+                        (state->checker = make_type(module, &checker_spec));
     if (!is_made || take_names(state) || make_simples(state) || add_names(module, state)) return -1;
     return set_match_arguments(state->tag, Py_BuildValue("(ss)", "number", "content")) ||
                    set_match_arguments(state->simple, Py_BuildValue("(s)", "number"))
@@ -93,6 +95,7 @@ static PyObject **kept(struct state *state, int i) {
                                   (PyObject **)&state->frozen_dict,
                                   (PyObject **)&state->items,
                                   (PyObject **)&state->machine,
+                                  (PyObject **)&state->checker,
                                   &state->encoded,
                                   &state->undefined,
                                   &state->refused,

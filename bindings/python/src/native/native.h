@@ -27,7 +27,7 @@ enum option { ORDER, KEYS, DEPTH, MAX_BYTES, CANONICAL, OFFSETS, DEFAULT, TAG_HO
 
 /* What the module keeps. */
 struct state {
-    PyTypeObject *tag, *simple, *frozen_list, *frozen_dict, *items, *machine;
+    PyTypeObject *tag, *simple, *frozen_list, *frozen_dict, *items, *machine, *checker;
     PyObject *encoded, *undefined, *refused, *array;
     PyObject *simples[256]; /* the simple values, except the four that Python has, and 24 to 31 */
     PyObject *option_names[OPTION_COUNT];
@@ -56,6 +56,10 @@ struct signature {
 /* The operands (borrowed) and the options of a call; -1 with an exception if they are wrong. */
 int read_arguments(const struct state *state, const struct signature *signature, PyObject *const *arguments,
                    Py_ssize_t count, PyObject *names, PyObject **operands, struct options *options);
+
+/* The same of a type, which is called with a tuple and a dict (or null), and has no operands. */
+int read_named_arguments(const struct state *state, const struct signature *signature, PyObject *arguments,
+                         PyObject *named, struct options *options);
 
 /* ---- input.c ---- */
 
@@ -104,6 +108,9 @@ struct refused {
     const char *side;     /* of two inputs 'left' or 'right'; else null */
     uint64_t item, start; /* of a sequence the number of the item, from 1, and its offset; else 0 */
 };
+
+/* What is refused of an item whose bytes came in parts and are gone: its exception has no path. */
+extern const struct refused forgotten_bytes;
 
 /* The exception Refused, with sentence, advice and path. */
 PyObject *new_refused(const struct state *state, const struct naltvigo_refusal *refusal, const struct refused *of);
@@ -187,9 +194,9 @@ struct frozen {
 /* One of these members, with its hash. It takes the reference, which may be null. */
 PyObject *freeze(const struct state *state, PyObject *members, const struct held *held);
 
-/* ---- sequence.c, machine.c ---- */
+/* ---- sequence.c, machine.c, checker.c ---- */
 
-extern PyType_Spec items_spec, machine_spec;
+extern PyType_Spec items_spec, machine_spec, checker_spec;
 
 /* ---- The functions of the module ---- */
 
@@ -208,10 +215,11 @@ FUNCTION(canonicalise_items);
 FUNCTION(dumps);
 FUNCTION(loads);
 FUNCTION(start_machine);
+FUNCTION(refusal);
 
 /* documentation.c */
 extern const char canonicalise_doc[], check_doc[], check_canonical_doc[], is_canonical_doc[], same_doc[],
     diagnostic_doc[], items_doc[], item_ends_doc[], canonicalise_items_doc[], dumps_doc[], loads_doc[],
-    start_machine_doc[], tag_doc[], simple_doc[], frozen_list_doc[], frozen_dict_doc[];
+    start_machine_doc[], refusal_doc[], checker_doc[], tag_doc[], simple_doc[], frozen_list_doc[], frozen_dict_doc[];
 
 #endif

@@ -109,3 +109,14 @@ int read_arguments(const struct state *state, const struct signature *signature,
     }
     return 0;
 }
+
+int read_named_arguments(const struct state *state, const struct signature *signature, PyObject *arguments,
+                         PyObject *named, struct options *options) {
+    PyObject *name, *value;
+    Py_ssize_t position = 0;
+    if (read_arguments(state, signature, NULL, PyTuple_Size(arguments), NULL, NULL, options)) return -1;
+    if (named && !PyArg_ValidateKeywordArguments(named)) return -1;
+    while (named && PyDict_Next(named, &position, &name, &value))
+        if (read_name(state, signature, name, value, NULL, options)) return -1;
+    return 0;
+}

@@ -93,7 +93,9 @@ canon --bytes M in out | error: invalid value 'M' for '--bytes <count>': expecte
 canon --bytes 1MK in out | error: invalid value '1MK' for '--bytes <count>': expected a number from 0 to 4611686018427387904, with K, M or G after it or no unit\n;
 canon --bytes 1é in out | error: invalid value '1é' for '--bytes <count>': expected a number from 0 to 4611686018427387904, with K, M or G after it or no unit\n;
 canon --bytes= in out | error: invalid value '' for '--bytes <count>': expected a number from 0 to 4611686018427387904, with K, M or G after it or no unit\n;
-check in more | error: unexpected argument 'more' found\n;
+check - in - | error: standard input is read once: '-' cannot be given twice\n;
+show in more | error: unexpected argument 'more' found\n;
+events in more | error: unexpected argument 'more' found\n;
 check --strict=yes in | error: unexpected value 'yes' for '--strict' found; no more were expected\n;
 check --strict --strict in | error: the argument '--strict' cannot be used multiple times\n;
 check --seq=yes in | error: unexpected value 'yes' for '--seq' found; no more were expected\n;

@@ -97,6 +97,28 @@ refused 20 KeyKind at 1
   at $, key 1 of the map at 0
 ";
 
+const DEEP: &str = "\
+refused 9 TooDeep at 1
+  in in
+  An array, map or tag is nested deeper than the limit.
+  Raise the depth limit, which can be at most 1024.
+  bytes from 0: 81 80
+                   ^^
+  at $[0]
+  The option --depth sets the depth limit.
+";
+
+const LONG: &str = "\
+refused 2 TooLong at 2
+  in in
+  The item is longer than the byte limit.
+  Raise the byte limit if such items are expected.
+  bytes from 0: 82 00 00
+                      ^^
+  at $[1]
+  The option --bytes sets the byte limit.
+";
+
 const OTHER_DIGIT: &str = "\
 not hex: in
   With --hex, the input must consist of hex digits, two for each byte, and white space.
@@ -110,7 +132,7 @@ not hex: in
 ";
 
 // The arguments, the file as hex (with `--hex` its text), and what is on standard error.
-static EXPLAINED: [(&str, &str, &str); 12] = [
+static EXPLAINED: [(&str, &str, &str); 14] = [
     ("check --explain in", "a161618200f90000", FLOAT),
     ("canon --explain in out", "a2616100616101", REPEATED),
     ("show --explain in", "d81882", TRUNCATED),
@@ -130,6 +152,8 @@ static EXPLAINED: [(&str, &str, &str); 12] = [
     ("check --explain in", "816261ff", TEXT),
     ("events --explain in", "827f6161ff1c", RESERVED),
     ("check --keys basic --explain in", "a18000", OTHER_KEY),
+    ("check --depth 1 --explain in", "8180", DEEP),
+    ("check --bytes 2 --explain in", "820000", LONG),
     (
         "check --seq --hex --explain in",
         "0082010281ff",

@@ -60,7 +60,7 @@ fn standard_error_fails(rt: HostRuntime) -> Result<(), AllocError> {
 }
 
 // The arguments, and how many bytes standard output accepts of the output for a file that holds 0.
-static PRINTED: [(&str, usize); 24] = [
+static PRINTED: [(&str, usize); 27] = [
     ("help", 0),
     ("help", 1),
     ("help", 20),
@@ -70,6 +70,9 @@ static PRINTED: [(&str, usize); 24] = [
     ("check --strict in", 0),
     ("check --seq in", 0),
     ("check --seq in", 16),
+    ("check in a", 0),
+    ("check in a", 21),
+    ("check in a", 25),
     ("compare in in", 0),
     ("compare in in", 4),
     ("show in", 0),

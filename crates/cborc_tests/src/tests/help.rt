@@ -11,7 +11,7 @@ Usage: cborc <COMMAND>
 Commands:
   show     Writes the diagnostic text of the item in FILE, or of each item of a sequence
   events   Writes a line for each event of the item in FILE, or of each item of a sequence
-  check    Checks that FILE is one valid item, or a sequence of them
+  check    Checks that each FILE is one valid item, or a sequence of them
   canon    Writes the canonical bytes of the item in IN, or of each item of a sequence, to OUT
   compare  Reports whether the items in A and B have the same value
   help     Print this message or the help of the given subcommand(s)
@@ -69,12 +69,12 @@ Options:
 ";
 
 const HELP_OF_CHECK: &str = "\
-Checks that FILE is one valid item, or a sequence of them
+Checks that each FILE is one valid item, or a sequence of them
 
-Usage: cborc check [OPTIONS] [FILE]
+Usage: cborc check [OPTIONS] [FILE]...
 
 Arguments:
-  [FILE]  The file to read, or - for standard input [default: -]
+  [FILE]...  The files to read, or - for standard input [default: -]
 
 Options:
       --strict         Accept only canonical bytes

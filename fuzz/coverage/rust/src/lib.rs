@@ -2,8 +2,9 @@
 //! is the input.
 
 use naltvigo::{
-    canonical_items, canonicalise, check, check_canonical, items, read_canonical_items, read_items,
-    same, Event, Events, Item, Key, Keys, Kind, Machine, Map, Options, Order, Step, Value, View,
+    canonical_items, canonicalise, check, check_canonical, check_reader, items, read_canonical_items,
+    read_items, same, Checked, Checker, Event, Events, Item, Key, Keys, Kind, Machine, Map, Options, Order,
+    ReadError, Reason, Step, Value, View,
 };
 
 #[no_mangle]
@@ -15,6 +16,7 @@ pub extern "C" fn LLVMFuzzerTestOneInput(data: *const u8, size: usize) -> i32 {
         values(input, &options);
         sequences(input, &options, *part);
         events(input, &options, *part, *cut);
+        checks(input, &options, *part, *cut);
     }
     0
 }
@@ -137,4 +139,28 @@ fn events(input: &[u8], options: &Options, part: u8, cut: u8) {
     }
     let is_whole = Events::new(input, options).all(|event| event.is_ok());
     assert!(!is_whole || machine.step(b"").1 == Step::Done);
+}
+
+// What a checker says after each part is what `check_canonical` says of all bytes so far.
+fn checks(input: &[u8], options: &Options, part: u8, cut: u8) {
+    let numbers = |why: naltvigo::Refused| (why.reason, why.offset, why.consumed);
+    let mut checker = Checker::new(options).unwrap();
+    let (first, rest) = input.split_at(input.len().min(usize::from(cut)));
+    let mut end = 0;
+    for part in [first].into_iter().chain(rest.chunks(usize::from(part) + 1)) {
+        end += part.len();
+        let found = checker.take(part).map_err(numbers);
+        match check_canonical(&input[..end], options).map_err(numbers) {
+            Ok(()) => assert_eq!((found, checker.consumed()), (Ok(Checked::Complete(part.len())), end as u64)),
+            Err((Reason::Truncated, ..)) => assert_eq!((found, checker.consumed()), (Ok(Checked::More), end as u64)),
+            Err((Reason::Trailing, length, _)) => assert!(found.is_ok() && checker.consumed() == length),
+            Err(why) => assert_eq!((found, checker.consumed()), (Err(why), why.2)),
+        }
+    }
+    let whole = check_canonical(input, options).map_err(numbers);
+    match check_reader(input, options) {
+        Ok(length) => assert_eq!((whole, length), (Ok(()), end as u64)),
+        Err(ReadError::Refused(why)) => assert_eq!(Err(numbers(why)), whole),
+        Err(ReadError::Read(error)) => panic!("{error}"),
+    }
 }

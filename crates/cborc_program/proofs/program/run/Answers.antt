@@ -7,7 +7,7 @@ use Rattle.cborc_program.{specs.Run.answered, proofs.Ends.ends, proofs.Ends.keep
 pub returns-in-Ok-clause-leaves : goal.returns-in-Ok-clause-leaves
 returns-in-Ok-clause-leaves g c =
     let same : c.as_slice.result.now ≡ c.args.words.items = search rules in
-    answered c.in-Ok.task (subst (λ (words : List Text). AskFor (parsed_words words) c.in-Ok.task) (ap texts_of same) c.in-Ok.ensures.ok) c.perform.ensures
+    answered c.in-Ok.task (subst (λ (words : List Text). AskFor (parsed_words words) c.in-Ok.task) (ap texts_of same) c.in-Ok.ensures.ok) c.perform_task.ensures.performed
 
 pub returns-clause-leaves : goal.returns-clause-leaves
 returns-clause-leaves g c =

@@ -8,7 +8,7 @@ use Rattle.cborc_words.{specs.inner.Commands.with_rules, specs.inner.Commands.Ha
 pub returns : goal.returns
 returns c =
     let empty : app_of c.about.result ≡ new_app (codes "check") = search rules in
-    let first : HasRule (grammar.input (codes "FILE")) c.input.result = search rules in
+    let first : HasRule (grammar.inputs (codes "FILE")) c.inputs.result = search rules in
     let second : HasRule (grammar.flag (codes "strict")) c.flag.result = search rules in
     let third : HasRule grammar.sequence c.sequence.result = search rules in
     let orders = c.order.ensures in

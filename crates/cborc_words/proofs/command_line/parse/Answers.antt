@@ -1,6 +1,6 @@
-use Rattle.std.proofs.Common.{◌≢◌, List, refl, subst, sym}
+use Rattle.std.proofs.Common.{◌≡◌, ◌≢◌, List, refl, rules, subst, sym}
 use Rattle.clap.{proofs.TakesLemmas.passed_up, specs.Words.Text, specs.Words.kind_of, specs.declared.error.kind.ErrorKind.TheVariants.OutOfMemory}
-use Rattle.cborc_words.proofs.Asked.{asked, of_clap, of_missing, of_no_byte_count, of_two_verbosities, of_two_streams}
+use Rattle.cborc_words.proofs.Asked.{asked, gives, of_clap, of_missing, of_no_byte_count, of_two_verbosities, of_two_streams}
 use Rattle.cborc_words.proofs.command_line.parse.Goals as goal
 use Rattle.cborc_words.specs.Words.{AskFor, HasFault}
 
@@ -36,16 +36,18 @@ returns-then-has_two_verbosities-clause-err c known =
 
 pub returns-then-reads_stream_twice-clause-err : goal.returns-then-reads_stream_twice-clause-err
 returns-then-reads_stream_twice-clause-err c known =
+    let same : c.in-Some.task.files.items ≡ c.in_ok-files.files.items = search rules in
     let app = c.in_ok-command.ensures in
     let parsed = c.in_ok-matches.ensures in
     subst (λ (words : List Text). HasFault words (kind_of c.in_ok-error-4.field-0)) c.parsed_words.ensures
-    (of_two_streams _ app.grammar app.simple _ _ c.in-Some.task _ parsed.ok.2 (parsed.kinds app.free) c.in-Some.ensures.value
+    (of_two_streams _ app.grammar app.simple _ _ c.in-Some.task _ parsed.ok.2 (parsed.kinds app.free) c.in-Some.ensures.value (gives _ c.in-Some.task c.in_ok-files.files.items c.in_ok-files.ensures same)
     (sym c.if-reads_stream_twice.ensures) c.in_ok-error-4.ensures.kind)
 
 pub returns-clause-ok : goal.returns-clause-ok
 returns-clause-ok c =
+    let same : c.in-Some.task.files.items ≡ c.in_ok-files.files.items = search rules in
     let app = c.in_ok-command.ensures in
     let parsed = c.in_ok-matches.ensures in
     subst (λ (words : List Text). AskFor words c.in-Some.task) c.parsed_words.ensures
-    (asked _ app.grammar app.simple _ _ c.in-Some.task parsed.ok.2 (parsed.kinds app.free) c.in-Some.ensures.value (c.if-has_two_verbosities.ensures.no refl)
+    (asked _ app.grammar app.simple _ _ c.in-Some.task parsed.ok.2 (parsed.kinds app.free) c.in-Some.ensures.value (gives _ c.in-Some.task c.in_ok-files.files.items c.in_ok-files.ensures same) (c.if-has_two_verbosities.ensures.no refl)
     (sym c.if-reads_stream_twice.ensures))

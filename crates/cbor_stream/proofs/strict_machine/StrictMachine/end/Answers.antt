@@ -1,8 +1,8 @@
-use Rattle.std.proofs.Common.{◌≡◌, ◌<◌, ◌∙◌, sym, ap, subst, inl, inr, arith, take, []}
+use Rattle.std.proofs.Common.{◌≡◌, ◌<◌, ◌∙◌, Some, None, sym, ap, subst, inl, inr, arith, take, []}
 use Rattle.cbor_head.specs.{Prelude.refusal, declared.reason.Reason.TheVariants.Truncated}
 use Rattle.cbor_machine.specs.Machine.{IfRefused, IsMore, IsEvent}
 use Rattle.cbor_machine.specs.declared.step.Out.{Out}
-use Rattle.cbor_stream.proofs.Checking.{ends_done, ends_refused, ends_more}
+use Rattle.cbor_stream.proofs.Checking.{ends_done, ends_refused, ends_more, stands_more}
 use Rattle.cbor_stream.proofs.strict_machine.StrictMachine.end.Goals as goal
 use Rattle.cbor_stream.{specs.StrictMachine.IsStrictAnswer, specs.Reasons.IsStrictReason, proofs.Steps.if_refused}
 
@@ -32,3 +32,25 @@ returns-in-More-clause-says c = λ t ms h.
           (subst (λ (o : Out). IsStrictAnswer o s.new.self t (take s.result.used []) ms) is (s.ensures.answers t ms h))
       | inr e ↦ let some : 0 < s.result.used = s.ensures.event.0 (subst IsEvent (sym e.1) tt) in absurd (omega (arith, some, none))
     ]
+
+pub returns-in-Done-clause-stands : goal.returns-in-Done-clause-stands
+returns-in-Done-clause-stands c = λ t ms h live.
+    let s = c.step in
+    (subst (λ (o : Out). IsStrictAnswer o s.new.self t (take s.result.used []) ms) c.in-Done.is (s.ensures.answers t ms h)).2
+
+pub returns-in-More-clause-stands : goal.returns-in-More-clause-stands
+returns-in-More-clause-stands c = λ t ms h live.
+    let s = c.step in
+    let none : s.result.used ≡ 0 = omega (arith, s.ensures.used.0) in
+    elim c.in-More.is [
+      | inl is ↦
+          stands_more c.args.self.now s.new.self s.ensures.limits s.ensures.order s.ensures.keys (take s.result.used []) t ms (ap (λ n. take n []) none)
+          (subst (λ (o : Out). IsStrictAnswer o s.new.self t (take s.result.used []) ms) is (s.ensures.answers t ms h))
+      | inr e ↦ let some : 0 < s.result.used = s.ensures.event.0 (subst IsEvent (sym e.1) tt) in absurd (omega (arith, some, none))
+    ]
+
+pub returns-in-Refused-clause-stands : goal.returns-in-Refused-clause-stands
+returns-in-Refused-clause-stands c = λ t ms h live.
+    let s = c.step in
+    let r = subst (λ (o : Out). IfRefused o (λ f. s.new.self.refusal ≡ Some f)) c.in-Refused.is (if_refused s.result.out _ _ (λ f k. k.0) s.ensures.refused) in
+    let both : None ≡ Some c.in-Refused.refusal = sym live ∙ r in cc both

@@ -1,0 +1,127 @@
+package naltvigo
+
+// #include "naltvigo_checker.h"
+import "C"
+
+import (
+	"io"
+	"runtime"
+)
+
+// Checker checks that an item that arrives in parts of any length is in its canonical bytes. After each part it says what
+// CheckCanonical says of all bytes of the item so far, wherever they were cut, and nil where that is Truncated. So an item is
+// refused at the first wrong byte. It stores the last key of each open map, the key that is not complete, and some 10 KiB,
+// but no other byte of the item. If all bytes are at hand, CheckCanonical is several times faster.
+//
+// A refusal stays: each later call returns it, until Restart. Its offset counts from the item's first byte, and its path is $,
+// since the bytes are gone. After ErrMemory, too, only Restart goes on.
+//
+// NewChecker makes one, and Close frees it. One goroutine at a time may use it.
+type Checker struct {
+	state *checkerState // so that a copy of a Checker is the same one, which is freed once
+}
+
+type checkerState struct {
+	handle   C.struct_naltvigo_checker
+	order    C.uint32_t
+	consumed uint64
+	complete bool
+	trailing bool // whether the item is refused for a byte after it, of which the library does not know
+}
+
+// NewChecker returns a checker before an item's first byte.
+func NewChecker(options *Options) (*Checker, error) {
+	with := given(options).c()
+	state := &checkerState{order: with.order}
+	if err := failure(C.naltvigo_checker_new(&with, &state.handle)); err != nil {
+		return nil, err
+	}
+	runtime.SetFinalizer(state, (*checkerState).free)
+	return &Checker{state}, nil
+}
+
+// Take consumes bytes of the item from the start of a part, and returns their number. It is less than the part's length only
+// if the item is complete or refused. A part of no bytes is allowed, and is not the end.
+func (checker *Checker) Take(part []byte) (int, error) {
+	state := checker.state
+	if state.trailing {
+		return 0, state.refuseTrailing()
+	}
+	var used C.size_t
+	var why C.struct_naltvigo_refusal
+	status := C.naltvigo_checker_take(&state.handle, first(part), C.size_t(len(part)), &used, &why)
+	state.consumed += uint64(used)
+	state.complete = status == C.NALTVIGO_OK
+	if status == C.NALTVIGO_MORE {
+		return int(used), nil
+	}
+	return int(used), outcome(status, &why, nil, widest)
+}
+
+// Write is Take for exactly one item: a byte after it is refused as Trailing, and this refusal stays too. The number is that
+// of the part's bytes that belong to the item.
+func (checker *Checker) Write(part []byte) (int, error) {
+	used, err := checker.Take(part)
+	if err == nil && used < len(part) {
+		err = checker.state.refuseTrailing()
+	}
+	return used, err
+}
+
+// Complete reports whether the item's last byte was consumed, and the item is canonical.
+func (checker *Checker) Complete() bool { return checker.state.complete }
+
+// Consumed returns the number of the item's bytes that were consumed.
+func (checker *Checker) Consumed() uint64 { return checker.state.consumed }
+
+// End says that no byte follows: it returns nil exactly if the item is complete, and nothing that follows it was written. An
+// item that is not complete is refused as Truncated.
+func (checker *Checker) End() error {
+	state := checker.state
+	if state.trailing {
+		return state.refuseTrailing()
+	}
+	var why C.struct_naltvigo_refusal
+	status := C.naltvigo_checker_end(&state.handle, &why)
+	return outcome(status, &why, nil, widest)
+}
+
+// Restart goes on with another item, with the same options, whatever became of the one before.
+func (checker *Checker) Restart() {
+	state := checker.state
+	C.naltvigo_checker_restart(state.order, &state.handle)
+	state.consumed, state.complete, state.trailing = 0, false, false
+}
+
+// Close frees the memory now, and not when the garbage collector finds the Checker. After it, each call returns ErrClosed.
+// The error is nil.
+func (checker *Checker) Close() error {
+	runtime.SetFinalizer(checker.state, nil)
+	checker.state.free()
+	*checker.state = checkerState{}
+	return nil
+}
+
+func (state *checkerState) free() { C.naltvigo_checker_free(&state.handle) }
+
+// refuseTrailing refuses a byte after the item.
+func (state *checkerState) refuseTrailing() error {
+	state.trailing = true
+	at := C.uint64_t(state.consumed)
+	return refusedBy(&C.struct_naltvigo_refusal{reason: C.NALTVIGO_TRAILING, offset: at, consumed: at}, nil, widest)
+}
+
+// CheckReader returns nil exactly if all bytes of a reader are one item in its canonical bytes. It reads to the end, or until
+// a byte is refused, and stores no more than a Checker does. Of the same bytes, CheckCanonical returns the same refusal. Any
+// other error is the reader's. The number is that of the bytes that were consumed.
+func CheckReader(from io.Reader, options *Options) (int64, error) {
+	checker, err := NewChecker(options)
+	if err != nil {
+		return 0, err
+	}
+	defer checker.Close()
+	if _, err = io.Copy(checker, from); err == nil {
+		err = checker.End()
+	}
+	return int64(checker.Consumed()), err
+}
