@@ -1,5 +1,5 @@
 #!/usr/bin/env bash
-# Prints the times of the package for Go and of fxamacker/cbor on the same inputs, as a Markdown table: bench/go.sh
+# Prints the times of the package for Go, of fxamacker/cbor and of encoding/json on the same values, as a Markdown table: bench/go.sh
 #
 # Times are processor time, the least of 5 runs of TIME (0.5s without it). It needs Go, a C compiler, the assembly in portable/,
 # and Debian's golang-github-fxamacker-cbor-dev.
@@ -36,6 +36,7 @@ go test -bench . -benchtime "${TIME:-0.5s}" -count 5 | awk '
         words["CheckValid"] = "`CheckValid`"; words["Canonicalise"] = "`Canonicalise`"
         words["Values"] = "`Unmarshal`, then `Marshal`"
         words["FxamackerWellformed"] = "fxamacker, `Valid`"; words["FxamackerValues"] = "fxamacker, `Unmarshal`, then `Marshal`"
+        words["JSONValues"] = "JSON, `Unmarshal`, then `Marshal`"
     }
     /^Benchmark/ {
         sub(/^Benchmark/, "", $1); sub(/-[0-9]+$/, "", $1); split($1, it, "/")

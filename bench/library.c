@@ -1,11 +1,13 @@
 /* library FOLDER NAME..: times calls of naltvigo.h in process on FOLDER/NAME.cbor and its canonical bytes
  * FOLDER/NAME.bytewise, and compares with plain C (floor.c) and, if it is installed, libcbor; prints a row of Markdown
- * tables for each, in MB/s of processor time, the best of some calls; then the cost of a call on a small item, and events.
+ * tables for each, in MB/s of processor time, the best of some calls; then the cost of a call on a small item, events, and the
+ * check of canonical bytes in parts.
  * library --calls NAME ITEM MEMBERS TIMES: makes TIMES calls on a small item, or on an array of MEMBERS of it, for a
  * count of their instructions (small.py). */
 #define _POSIX_C_SOURCE 199309L
 #include "../c/options.h"
 #include "floor.h"
+#include <naltvigo_checker.h>
 
 #include <stdio.h>
 #include <stdlib.h>
@@ -93,6 +95,23 @@ static int events_by(size_t part, size_t space) {
     } while (s == NALTVIGO_EVENT || (s == NALTVIGO_MORE && at < in.length));
     return s == NALTVIGO_OK && at == in.length;
 }
+/* The check of the canonical bytes, in parts of this size. */
+static int checked_by(size_t part) {
+    struct naltvigo_checker checker;
+    size_t used, at = 0;
+    uint32_t s = naltvigo_checker_new(LIMITS(256, NALTVIGO_BYTES_MAX), &checker);
+    while (s == NALTVIGO_OK || s == NALTVIGO_MORE) {
+        size_t offered = canonical.length - at < part ? canonical.length - at : part;
+        s = naltvigo_checker_take(&checker, canonical.at + at, offered, &used, &why);
+        at += used;
+        if (s == NALTVIGO_OK || offered == 0) break;
+    }
+    naltvigo_checker_free(&checker);
+    return s == NALTVIGO_OK && at == canonical.length;
+}
+static int checked_1400(void) { return checked_by(1400); }
+static int checked_4096(void) { return checked_by(4096); }
+static int checked_65536(void) { return checked_by(65536); }
 static int events_64(void) { return events_by(4096, 64); }
 static int events_1(void) { return events_by(4096, 1); }
 #ifdef HAS_LIBCBOR
@@ -250,6 +269,18 @@ int main(int count, char **words) {
     }
 #endif
     print_small();
+    puts("\n| canonical bytes checked, MB/s | bytes | `check_canonical` | in parts of 64 KiB | of 4 KiB | of 1,400 bytes |");
+    puts("| --- | ---: | ---: | ---: | ---: | ---: |");
+    for (int i = 2; i < count; i++) {
+        take_document(words[1], words[i]);
+        printf("| %s | %zu |", words[i], canonical.length);
+        print_speed(check_canonical, canonical.length);
+        print_speed(checked_65536, canonical.length);
+        print_speed(checked_4096, canonical.length);
+        print_speed(checked_1400, canonical.length);
+        puts("");
+        give_up_document();
+    }
     puts("\n| events by `naltvigo_machine_take`, MB/s | bytes | 64 events a call | 1 event a call |");
     puts("| --- | ---: | ---: | ---: |");
     for (int i = 2; i < count; i++) {

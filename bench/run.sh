@@ -1,7 +1,7 @@
 #!/usr/bin/env bash
 # Prints how long the library and the program take, as Markdown tables.
 #
-#   bench/run.sh [items] [program] [instructions] [library] [strict] [views]      all six by default
+#   bench/run.sh [items] [program] [instructions] [library] [languages] [strict] [views]      all by default
 #
 # items    proves and runs items.rattle, a program over cbor_item, on trees made from a seed
 # program  makes files from a seed (inputs.py), and runs cborc on them (program.py); then on a sequence of
@@ -14,6 +14,10 @@
 # library  builds the library for C, and times its calls in process, compared with plain C (library.c, floor.c)
 #          and libcbor, where Debian's libcbor-dev is installed; counts their instructions on small items,
 #          by valgrind (small.py), and the stack that they need (c/stack.c)
+# languages
+#          times the packages for Python, Go and JavaScript and the extensions for SQLite and PostgreSQL next to
+#          cbor2, fxamacker/cbor and JSON, as far as they are installed (bindings/python/bench.py, go.sh, web.sh,
+#          databases.sh). JavaScript needs its modules in bindings/js/wasm, as scripts/build_web.sh makes them
 # strict   proves and runs strict.rattle, a program over cbor_strict, and counts the instructions of
 #          read_strict from a reader and of plain C (strict.py, plain.c, floor.c), by valgrind
 # views    proves and runs views.rattle, a program over cbor_reader and example, and counts the instructions
@@ -92,6 +96,21 @@ library() {
     "$scratch/stack"
 }
 
+# The package for Python is installed from its wheel, for a Python that has cbor2.
+languages() {
+    [ -d "$scratch/dist" ] || "$root/scripts/build_c.sh" "$scratch/dist" "$root/portable/naltvigo.S"
+    mkdir -p "$scratch/site"
+    NALTVIGO_LIB=$scratch/dist/lib python3 "$root/bindings/python/build_wheel.py" "$scratch" >/dev/null
+    python3 -m zipfile -e "$scratch"/naltvigo-*.whl "$scratch/site"
+    PYTHONPATH=$scratch/site /usr/bin/python3 "$root/bindings/python/bench.py" || echo 'languages: Python is left out' >&2
+    printf '\n'
+    "$root/bench/go.sh" || echo 'languages: Go is left out' >&2
+    printf '\n'
+    [ ! -d "$root/bindings/js/wasm" ] || "$root/bench/web.sh" "$scratch/dist" || echo 'languages: JavaScript is left out' >&2
+    printf '\n'
+    "$root/bench/databases.sh" "$scratch/dist" || echo 'languages: the databases are left out' >&2
+}
+
 strict() {
     mkdir -p "$scratch/crates/strict/src"
     cp "$root/bench/strict.rattle" "$scratch/crates/strict/src/main.rt"
@@ -114,16 +133,16 @@ views() {
     python3 "$root/bench/views.py" out/views "$scratch/inputs" records integers texts map_100000 small_chunks zeros
 }
 
-[ $# -gt 0 ] || set -- items program instructions library strict views
+[ $# -gt 0 ] || set -- items program instructions library languages strict views
 date -u +'%Y-%m-%d, '"$(nproc) processors, load $(cut -d' ' -f1 /proc/loadavg)"
 for part; do
     case $part in
-        items | program | instructions | library | strict | views)
+        items | program | instructions | library | languages | strict | views)
             printf '\n## %s\n\n' "$part"
             ("$part")
             ;;
         *)
-            echo "usage: bench/run.sh [items] [program] [instructions] [library] [strict] [views]" >&2
+            echo "usage: bench/run.sh [items] [program] [instructions] [library] [languages] [strict] [views]" >&2
             exit 2
             ;;
     esac

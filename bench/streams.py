@@ -103,6 +103,7 @@ def print_long(cborc, folder):
     rows = [
         ("zeros: `check --bytes 4000000000`", ["check", *within], b"", 1, b"", b"refused 12 Trailing at 1\n"),
         ("one byte string: `check --bytes 4000000000`", ["check", *within], string, 0, b"accepted %d bytes\n" % (GIB + 5), b""),
+        ("one byte string: `check --strict --bytes 4000000000`", ["check", "--strict", *within], string, 0, b"accepted %d bytes\n" % (GIB + 5), b""),
         ("zeros: `check --seq`", ["check", "--seq"], b"", 0, b"accepted %d items\n" % GIB, b""),
     ]
     print("\n| a file of 1 GiB | result | processor time, s | wall time, s | peak memory, MiB |\n| --- | --- | ---: | ---: | ---: |")

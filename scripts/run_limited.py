@@ -52,6 +52,29 @@ def small_items(place):
         faults.append(f"{name}: OUT holds something else")
 
 
+def long_item(place):
+    """A canonical item of 64 MB is checked as it is read, within 3 MiB more than the program starts with."""
+    count = 64_000_000 // len(CLAIMS)
+    item = b"\x9a" + count.to_bytes(4, "big") + CLAIMS * count
+    # The keys of its last map are out of order: 0 after 7.
+    unsorted = item[:-4] + b"\x00\x42\x0b\x71"
+    size = len(item)
+    few = limited(start() + 3 * 1024)
+    words = ["check", "--strict", "--bytes", "100000000"]
+    rows = [
+        ("", item, 0, b"accepted %d bytes\n" % size, b""),
+        (", without its last byte", item[:-1], 1, b"", b"refused 1 Truncated at %d\n" % (size - 1)),
+        (", with a byte after it", item + b"\x00", 1, b"", b"refused 12 Trailing at %d\n" % size),
+        (", its last map unsorted", unsorted, 1, b"", b"refused 16 KeyOrder at %d\n" % (size - 4)),
+    ]
+    for what, given, status, out, err in rows:
+        place.put("long", given)
+        expect(f"check --strict of 64 MB{what}", place.run([*words, "long"], preexec_fn=few), status, out, err)
+        expect(f"check --strict of 64 MB{what}, from a pipe", place.run([*words, "-"], given=given, preexec_fn=few), status, out, err)
+    place.put("hex", item.hex().encode())
+    expect("check --strict --hex of 64 MB", place.run([*words, "--hex", "hex"], preexec_fn=limited(start() + 8 * 1024)), 0, rows[0][3])
+
+
 def one_item(place):
     """A byte string of 100 MB is stored once, in a vector with capacity for half as many bytes more."""
     size = 100_000_000
@@ -83,7 +106,6 @@ def too_little(place):
         faults.append(f"show within most: status {shown.returncode}, {len(shown.stdout)} bytes")
     rows = [
         (few, ["check", *within, "wide"], MEMORY),
-        (few, ["check", "--strict", *within, "wide"], MEMORY),
         (few, ["check", "--explain", *within, "wide"], MEMORY + b"  Use a lower --bytes to need less memory.\n"),
         (few, ["check", "--seq", *within, "second"], MEMORY),
         (few, ["show", *within, "wide"], MEMORY),
@@ -187,7 +209,7 @@ def deep(place):
                         faults.append(f"{opens!r}, {levels} deep: {command}: {ended.returncode} {ended.stderr[:200]!r}")
 
 
-TESTS = (small_items, one_item, too_little, small_disks, short_files, deep)
+TESTS = (small_items, long_item, one_item, too_little, small_disks, short_files, deep)
 
 
 def test():

@@ -1,8 +1,10 @@
-// Compares the times of the package for Go and of fxamacker/cbor on the same inputs: bench/go.sh runs it.
+// Compares the times of the package for Go, of fxamacker/cbor and of encoding/json on the same values: bench/go.sh runs it.
 package compared
 
 import (
 	"bytes"
+	"encoding/hex"
+	"encoding/json"
 	"fmt"
 	"syscall"
 	"testing"
@@ -122,6 +124,54 @@ func BenchmarkFxamackerValues(b *testing.B) {
 		if err == nil && !bytes.Equal(again, input) {
 			return fmt.Errorf("other bytes")
 		}
+		return err
+	})
+}
+
+// asJSON is the value as encoding/json takes it: a byte string is hex digits there, and keys are texts.
+func asJSON(value naltvigo.Value) interface{} {
+	switch it := value.(type) {
+	case naltvigo.Bytes:
+		return hex.EncodeToString(it)
+	case naltvigo.Text:
+		return string(it)
+	case naltvigo.Simple:
+		return it == naltvigo.True
+	case naltvigo.Array:
+		made := make([]interface{}, len(it))
+		for i, one := range it {
+			made[i] = asJSON(one)
+		}
+		return made
+	case naltvigo.Map:
+		made := map[string]interface{}{}
+		for _, pair := range it.Pairs() {
+			made[fmt.Sprint(asJSON(pair.Key))] = asJSON(pair.Value)
+		}
+		return made
+	}
+	n, _ := naltvigo.AsInt64(value)
+	return n
+}
+
+// The same values as JSON.
+func BenchmarkJSONValues(b *testing.B) {
+	texts := map[string][]byte{}
+	for name, input := range inputs(b) {
+		value, err := naltvigo.Unmarshal(input, nil)
+		if err != nil {
+			b.Fatal(err)
+		}
+		if texts[string(input)], err = json.Marshal(asJSON(value)); err != nil {
+			b.Fatal(name, err)
+		}
+	}
+	each(b, func(b *testing.B, input []byte) error {
+		var value interface{}
+		if err := json.Unmarshal(texts[string(input)], &value); err != nil {
+			return err
+		}
+		_, err := json.Marshal(value)
 		return err
 	})
 }

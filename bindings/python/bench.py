@@ -1,10 +1,11 @@
-"""Prints the costs of calls next to those of cbor2's C extension, as a Markdown table, in one run: bench.py [TURNS]
+"""Prints the costs of calls next to those of cbor2's C extension and of json, as Markdown tables, in one run: bench.py [TURNS]
 
 Each number is the least of many short runs, turn by turn, in microseconds of the processor a call. Python's collector of
 cycles is on, as it is in programs.
 """
 
 import gc
+import json
 import random
 import sys
 import time
@@ -52,23 +53,37 @@ def least(calls, turns, number):
     return best
 
 
+def as_json(value):
+    """The value as json takes it: a byte string is hex digits there, and keys are texts."""
+    if isinstance(value, bytes):
+        return value.hex()
+    if isinstance(value, list):
+        return [as_json(it) for it in value]
+    return {str(key): as_json(it) for key, it in value.items()} if isinstance(value, dict) else value
+
+
 def row(name, value, number, turns):
     data, plain = dumps(value), cbor2.dumps(value)
     assert dumps(value, order="length") == cbor2.dumps(value, canonical=True), name
     assert loads(data) == value == cbor2.loads(data), name
-    put, its_put, took, took_plain, its_took = least(
+    readable = as_json(value)
+    text = json.dumps(readable)
+    put, its_put, json_put, took, took_plain, its_took, json_took = least(
         [
             lambda: dumps(value),
             lambda: cbor2.dumps(value, canonical=True),
+            lambda: json.dumps(readable, sort_keys=True),
             lambda: loads(data),
             lambda: loads(plain),
             lambda: cbor2.loads(data),
+            lambda: json.loads(text),
         ],
         turns,
         number,
     )
-    ratios = f"| {put:,.2f} | {its_put:,.2f} | {its_put / put:.1f} | {took:,.2f} | {its_took:,.2f} | {its_took / took:.1f} |"
-    return f"| {name}, {len(data):,} bytes {ratios} {took_plain:,.2f} |"
+    writes = f"{put:,.2f} | {its_put:,.2f} | {its_put / put:.1f} | {json_put:,.2f}"
+    reads = f"{took:,.2f} | {its_took:,.2f} | {its_took / took:.1f} | {json_took:,.2f} | {took_plain:,.2f}"
+    return f"| {name}, {len(data):,} bytes | {writes} | {reads} |"
 
 
 def calls_on_bytes(turns):
@@ -98,12 +113,12 @@ def main():
     turns = int(sys.argv[1]) if len(sys.argv) > 1 else 60
     rng = random.Random(1)
     records = [record(rng, f"name-{i}") for i in range(6540)]
-    print("| microseconds | `dumps` | cbor2, canonical | times | `loads` | cbor2 | times | `loads`, not canonical |")
-    print("|---|---:|---:|---:|---:|---:|---:|---:|")
+    print("| microseconds in Python | `dumps` | cbor2, canonical | times | json | `loads` | cbor2 | times | json | `loads`, not canonical |")
+    print("|---|" + "---:|" * 9)
     inputs = ("claims", CLAIMS, 200, 40 * turns), ("a certificate", kilobyte(rng), 50, 10 * turns), ("records", records, 1, turns)
     for name, value, number, often in inputs:
         print(row(name, value, number, often))
-    print("\n| claims, in bytes | microseconds |\n|---|---:|")
+    print("\n| claims, in bytes | microseconds in Python |\n|---|---:|")
     for name, time in calls_on_bytes(turns):
         print(f"| {name} | {time:.2f} |")
 
