@@ -143,6 +143,8 @@ static void handles(void) {
     struct naltvigo_checker checker;
     struct naltvigo_refusal why = unset;
     size_t used = 999;
+    /* what the memory of a handle holds before is not read */
+    checker.memory = &used;
     check(naltvigo_checker_new(OPTIONS(2, 4, 8), &checker) == NALTVIGO_BAD_ORDER && !checker.memory, "order", "2");
     check(naltvigo_checker_new(OPTIONS(0, 1025, 8), &checker) == NALTVIGO_BAD_LIMITS && !checker.memory, "depth", "1025");
     check(naltvigo_checker_new(ALL_OPTIONS(0, 2, 4, 8), &checker) == NALTVIGO_BAD_LIMITS && !checker.memory, "keys", "2");
