@@ -27,7 +27,7 @@ pub record IsCheckedTo (held : Option Files) (path : List ℕ) (options : Option
   pub limits_are : limits_of m ≡ options.limits
   pub order_is : m.order ≡ o
 
-keeps_same : (held : Option Files) → KeepsFiles held held
+pub keeps_same : (held : Option Files) → KeepsFiles held held
 keeps_same None = tt
 keeps_same (Some files) = λ path. refl
 

@@ -3,7 +3,7 @@
 ghost use Rattle.std.specs.Prelude.{◌≡◌, IfOk, IfErr};
 ghost use Rattle.cbor_head.specs.Complaint.{strict};
 ghost use Rattle.cborc_commands.specs.Check.{IsNoWholeInput};
-ghost use Rattle.cborc_commands.specs.inner.WholeInput.{IsWholeInput};
+ghost use Rattle.cborc_commands.specs.inner.WholeInput.{IsWholeInput, IsWholeFrom, IsNoWholeFrom};
 ghost use Rattle.cborc_files.specs.Folder.{KeepsFiles};
 
 use crate::check::{all_of, size_of_item};
@@ -35,14 +35,36 @@ pub fn strict_size<'a, F: Folder>(
 {
     let limits = options.limits;
     let least = first(options.hex, limits);
-    let mut parts = Parts::open(alloc, files, path, options.hex, least)?;
-    if !parts.goes_on() {
-        let mut scratch = Scratch::new(alloc);
-        let accepted = Accepted::Canonical(order);
-        let size = size_of_item(&mut scratch, parts.rest(), accepted, limits)?;
-        return Ok(size);
+    let parts = Parts::open(alloc, files, path, options.hex, least)?;
+    if parts.goes_on() {
+        return size_in_parts(alloc, files, path, parts, order, options);
     }
-    let mut machine = StrictMachine::new(alloc, limits, order);
+    let mut scratch = Scratch::new(alloc);
+    let accepted = Accepted::Canonical(order);
+    let size = size_of_item(&mut scratch, parts.rest(), accepted, limits)?;
+    Ok(size)
+}
+
+// The same of an input whose first part was read. This is a function of its own so that the machine
+// is not on the stack while a short input is checked.
+#[inline(never)]
+fn size_in_parts<'a, F: Folder>(
+    alloc: Global,
+    files: &mut F,
+    path: &'a str,
+    parts: Parts,
+    order: KeyOrder,
+    options: Options,
+) -> Result<u64, Fault<'a>>
+    ensures whole { IfOk result
+        (IsWholeFrom (strict order) options path.now (F.held files.old) parts) }
+    ensures fault { IfErr result
+        (IsNoWholeFrom (strict order) options path.now (F.held files.old) parts) }
+    ensures keeps { KeepsFiles (F.held files.old) (F.held files.new) }
+    ensures same { F.behind files.new ≡ F.behind files.old }
+{
+    let mut parts = parts;
+    let mut machine = StrictMachine::new(alloc, options.limits, order);
     'parts: loop {
         let step = machine.check(parts.rest());
         parts.take(step.used);

@@ -1,138 +1,19 @@
-use Rattle.std.proofs.Common.{ℕ, List, [], length, eqb, ◌≡◌, ◌≢◌, true, false, ap, sym, ◌∙◌}
-use Rattle.std.proofs.lemmas.{List.nil_from_length, Result.err_from_is_err_and, Bool.not-true, Bool.not-false, Bool.Decides.Decides-eqb}
+use Rattle.std.proofs.{Common.sym, Common.◌∙◌, lemmas.Result.err_from_is_err_and, lemmas.Bool.not-false}
 use Rattle.cbor_head.specs.Prelude.{strict}
-use Rattle.cborc_commands.proofs.CheckedParts as checked
 use Rattle.cborc_commands.proofs.check_parts.strict_size.Goals as goal
-use Rattle.cborc_commands.proofs.check_parts.strict_size.Goals.{in-Done+else-not-is_spent, in-More+else-not-goes_on-2}
-use Rattle.cborc_commands.proofs.{CheckedParts.taken_to, CheckedParts.starts_ended, Files.keeps_keeps, ItemFaults.not_whole}
-use Rattle.cborc_commands.specs.Fault.{refusal_fault}
-
--- whether a list of this length is empty
-nothing : (n : ℕ) (xs ys : List ℕ) → xs ≡ ys → n ≡ length xs → eqb n 0 ≡ true → ys ≡ []
-nothing n xs ys same is none = sym same ∙ nil_from_length xs (sym is ∙ (Decides-eqb n 0).0 none)
-
-something : (n : ℕ) (xs ys : List ℕ) → xs ≡ ys → n ≡ length xs → eqb n 0 ≡ false → ys ≢ []
-something n xs ys same is some none = let both : false ≡ true = sym some ∙ (Decides-eqb n 0).1 (is ∙ ap length (same ∙ none)) in cc both
-
-pub parts-init : goal.parts-init
-parts-init g c = record {
-  checked = record { taken = []; marks = []; read = c.in_ok-parts.ensures.begins; stands = c.new-machine.ensures.starts; limits_are = c.new-machine.ensures.limits; order_is = c.new-machine.ensures.order };
-  keeps = c.open.ensures.keeps;
-  same = c.open.ensures.same;
-}
+use Rattle.cborc_commands.proofs.{CheckedParts.starts_ended, ItemFaults.not_whole, Results.if_ok, Results.if_err}
 
 pub returns-in_err-size-clause-fault : goal.returns-in_err-size-clause-fault
 returns-in_err-size-clause-fault g c =
     let p = err_from_is_err_and c.from_residual-in_err-size.result c.from_residual-in_err-size.ensures.1 in
-    let ended = not-false c.in_ok-parts.parts.source.ended (sym c.goes_on.ensures ∙ c.if-not-goes_on.true) in
+    let ended = not-false c.in_ok-parts.parts.source.ended (sym c.goes_on.ensures ∙ c.if-goes_on.false) in
     rw (p.1)
     (not_whole (strict c.args.order) c.args.options c.args.path.now (g.F.Folder.held c.args.files.now) c.in_ok-parts.parts.rest
     (starts_ended (g.F.Folder.held c.args.files.now) c.args.path.now c.args.options (strict c.args.order) c.in_ok-parts.parts c.in_ok-parts.ensures.begins ended) _
     (rw (c.rest.ensures) at c.in_err-size.ensures.refused) p.0 p.2)
 
-pub returns-in_err-finish-in-Refused-clause-fault : goal.returns-in_err-finish-in-Refused-clause-fault
-returns-in_err-finish-in-Refused-clause-fault g c =
-    let p = err_from_is_err_and c.from_residual-in_err-finish-in-Refused.result c.from_residual-in_err-finish-in-Refused.ensures.1 in
-    let within = rw (c.rest-in-parts.ensures) at c.check-step.ensures.used.0 in
-    let says = rw (c.rest-in-parts.ensures) at (c.check-step.ensures.says c.parts.invariant.checked.taken c.parts.invariant.checked.marks c.parts.invariant.checked.stands) in
-    let a = taken_to (g.F.Folder.held c.args.files.now) c.args.path.now c.args.options c.args.order c.parts.machine c.check-step.new.self c.parts.parts c.take.new.self c.parts.invariant.checked c.check-step.result.used within
-    c.take.ensures.rest c.take.ensures.start c.take.ensures.source c.check-step.ensures.limits c.check-step.ensures.order c.check-step.ensures.keys in
-    rw (p.1, p.2) (checked.no_rest (g.F.Folder.held c.args.files.now) c.args.path.now c.args.options c.args.order c.check-step.new.self c.take.new.self _ a _ c.parts.invariant.keeps _ c.in_err-finish-in-Refused.ensures.fault)
+pub returns-then-goes_on-clause-whole : goal.returns-then-goes_on-clause-whole
+returns-then-goes_on-clause-whole g c = if_ok c.size_in_parts.result _ _ (λ n h. h (g.F.Folder.held c.args.files.now) c.open.ensures.keeps c.in_ok-parts.ensures.begins) c.size_in_parts.ensures.whole
 
-pub returns-in_err-finish-in-Refused-clause-keeps : goal.returns-in_err-finish-in-Refused-clause-keeps
-returns-in_err-finish-in-Refused-clause-keeps g c = keeps_keeps _ _ _ c.parts.invariant.keeps c.finish.ensures.keeps
-
-pub returns-in-Refused-clause-fault : goal.returns-in-Refused-clause-fault
-returns-in-Refused-clause-fault g c =
-    let within = rw (c.rest-in-parts.ensures) at c.check-step.ensures.used.0 in
-    let says = rw (c.rest-in-parts.ensures) at (c.check-step.ensures.says c.parts.invariant.checked.taken c.parts.invariant.checked.marks c.parts.invariant.checked.stands) in
-    let a = taken_to (g.F.Folder.held c.args.files.now) c.args.path.now c.args.options c.args.order c.parts.machine c.check-step.new.self c.parts.parts c.take.new.self c.parts.invariant.checked c.check-step.result.used within
-    c.take.ensures.rest c.take.ensures.start c.take.ensures.source c.check-step.ensures.limits c.check-step.ensures.order c.check-step.ensures.keys in
-    checked.refused_there (g.F.Folder.held c.args.files.now) c.args.path.now c.args.options c.args.order c.check-step.new.self c.take.new.self _ a _ c.parts.invariant.keeps _ says c.in-Refused.refusal c.in-Refused.is c.in_ok-finish-in-Refused.ensures.input _ c.from.ensures
-
-pub returns-in-Refused-clause-keeps : goal.returns-in-Refused-clause-keeps
-returns-in-Refused-clause-keeps g c = keeps_keeps _ _ _ c.parts.invariant.keeps c.finish.ensures.keeps
-
-pub returns-in_err-rest-in-Done-clause-fault : goal.returns-in_err-rest-in-Done-clause-fault
-returns-in_err-rest-in-Done-clause-fault g c =
-    let p = err_from_is_err_and c.from_residual-in_err-rest-in-Done.result c.from_residual-in_err-rest-in-Done.ensures.1 in
-    let within = rw (c.rest-in-parts.ensures) at c.check-step.ensures.used.0 in
-    let says = rw (c.rest-in-parts.ensures) at (c.check-step.ensures.says c.parts.invariant.checked.taken c.parts.invariant.checked.marks c.parts.invariant.checked.stands) in
-    let a = taken_to (g.F.Folder.held c.args.files.now) c.args.path.now c.args.options c.args.order c.parts.machine c.check-step.new.self c.parts.parts c.take.new.self c.parts.invariant.checked c.check-step.result.used within
-    c.take.ensures.rest c.take.ensures.start c.take.ensures.source c.check-step.ensures.limits c.check-step.ensures.order c.check-step.ensures.keys in
-    rw (p.1, p.2) (checked.no_rest (g.F.Folder.held c.args.files.now) c.args.path.now c.args.options c.args.order c.check-step.new.self c.take.new.self _ a _ c.parts.invariant.keeps _ c.in_err-rest-in-Done.ensures.fault)
-
-pub returns-in_err-rest-in-Done-clause-keeps : goal.returns-in_err-rest-in-Done-clause-keeps
-returns-in_err-rest-in-Done-clause-keeps g c = keeps_keeps _ _ _ c.parts.invariant.keeps c.finish-then-not-is_spent.ensures.keeps
-
-pub returns-in_err-size-in-Done-clause-fault : goal.returns-in_err-size-in-Done-clause-fault
-returns-in_err-size-in-Done-clause-fault g c =
-    let p = err_from_is_err_and c.from_residual-in_err-size-in-Done.result c.from_residual-in_err-size-in-Done.ensures.1 in
-    let within = rw (c.rest-in-parts.ensures) at c.check-step.ensures.used.0 in
-    let says = rw (c.rest-in-parts.ensures) at (c.check-step.ensures.says c.parts.invariant.checked.taken c.parts.invariant.checked.marks c.parts.invariant.checked.stands) in
-    let a = taken_to (g.F.Folder.held c.args.files.now) c.args.path.now c.args.options c.args.order c.parts.machine c.check-step.new.self c.parts.parts c.take.new.self c.parts.invariant.checked c.check-step.result.used within
-    c.take.ensures.rest c.take.ensures.start c.take.ensures.source c.check-step.ensures.limits c.check-step.ensures.order c.check-step.ensures.keys in
-    let some = something _ _ _ c.in_ok-rest-in-Done.ensures.rest c.in_ok-rest-in-Done.rest.ok.0 (sym c.is_empty.ensures ∙ c.in_err-size-in-Done.ensures.followed.1) in
-    rw (p.1) (checked.followed_there (g.F.Folder.held c.args.files.now) c.args.path.now c.args.options c.args.order c.check-step.new.self c.take.new.self _ a _ c.parts.invariant.keeps _ says c.in-Done.is c.in_ok-rest-in-Done.ensures.input some _ c.start-size.ensures.is _ c.in_err-size-in-Done.ensures.followed.0 p.0 p.2)
-
-pub returns-in_err-size-in-Done-clause-keeps : goal.returns-in_err-size-in-Done-clause-keeps
-returns-in_err-size-in-Done-clause-keeps g c = keeps_keeps _ _ _ c.parts.invariant.keeps c.finish-then-not-is_spent.ensures.keeps
-
-pub returns-then-not-is_spent-clause-whole : goal.returns-then-not-is_spent-clause-whole
-returns-then-not-is_spent-clause-whole g c =
-    let within = rw (c.rest-in-parts.ensures) at c.check-step.ensures.used.0 in
-    let says = rw (c.rest-in-parts.ensures) at (c.check-step.ensures.says c.parts.invariant.checked.taken c.parts.invariant.checked.marks c.parts.invariant.checked.stands) in
-    let a = taken_to (g.F.Folder.held c.args.files.now) c.args.path.now c.args.options c.args.order c.parts.machine c.check-step.new.self c.parts.parts c.take.new.self c.parts.invariant.checked c.check-step.result.used within
-    c.take.ensures.rest c.take.ensures.start c.take.ensures.source c.check-step.ensures.limits c.check-step.ensures.order c.check-step.ensures.keys in
-    let none = nothing _ _ _ c.in_ok-rest-in-Done.ensures.rest c.in_ok-rest-in-Done.rest.ok.0 (sym c.is_empty.ensures ∙ c.in_ok-size-in-Done.ensures.all.1) in
-    checked.whole_there (g.F.Folder.held c.args.files.now) c.args.path.now c.args.options c.args.order c.check-step.new.self c.take.new.self _ a _ c.parts.invariant.keeps _ says c.in-Done.is c.in_ok-rest-in-Done.ensures.input none (c.is_spent.ensures.no c.if-not-is_spent.true none) _ (c.in_ok-size-in-Done.ensures.all.0 ∙ c.start-size.ensures.is)
-
-pub returns-then-not-is_spent-clause-keeps : goal.returns-then-not-is_spent-clause-keeps
-returns-then-not-is_spent-clause-keeps g c = keeps_keeps _ _ _ c.parts.invariant.keeps c.finish-then-not-is_spent.ensures.keeps
-
-pub returns-then-not-goes_on-2-clause-fault : goal.returns-then-not-goes_on-2-clause-fault
-returns-then-not-goes_on-2-clause-fault g c =
-    let within = rw (c.rest-in-parts.ensures) at c.check-step.ensures.used.0 in
-    let says = rw (c.rest-in-parts.ensures) at (c.check-step.ensures.says c.parts.invariant.checked.taken c.parts.invariant.checked.marks c.parts.invariant.checked.stands) in
-    let a = taken_to (g.F.Folder.held c.args.files.now) c.args.path.now c.args.options c.args.order c.parts.machine c.check-step.new.self c.parts.parts c.take.new.self c.parts.invariant.checked c.check-step.result.used within
-    c.take.ensures.rest c.take.ensures.start c.take.ensures.source c.check-step.ensures.limits c.check-step.ensures.order c.check-step.ensures.keys in
-    let more = checked.more_is _ _ _ c.in-More.is says in
-    let none = checked.none_left c.parts.parts c.take.new.self c.check-step.result.used c.take.ensures.rest (rw (c.rest-in-parts.ensures) at (c.check-step.ensures.more more.0)) in
-    let ended = not-false c.take.new.self.source.ended (sym c.goes_on-in-More.ensures ∙ c.if-not-goes_on-2.true) in
-    checked.cut_there (g.F.Folder.held c.args.files.now) c.args.path.now c.args.options c.args.order c.check-step.new.self c.take.new.self _ a _ c.parts.invariant.keeps more.1 none ended _ c.taken.ensures.taken _ (c.from-then-not-goes_on-2.ensures ∙ ap refusal_fault c.at-cut.ensures)
-
-pub parts-smaller : goal.parts-smaller
-parts-smaller g c =
-    let live : c.take.new.self.source.ended ≡ false = elim c.match-step.branch [
-      | in-Done+else-not-is_spent w ↦ w.is_spent.ensures.yes w.if-not-is_spent.false
-      | in-More+else-not-goes_on-2 w ↦ not-true c.take.new.self.source.ended (sym w.goes_on-in-More.ensures ∙ w.if-not-goes_on-2.false)
-    ] in
-    checked.less_left _ _ c.parts.parts c.take.new.self c.read_on.new.self c.check-step.result.used c.take.ensures.rest c.take.ensures.source live c.in_ok-read_on.ensures.read
-
-pub parts-preserved : goal.parts-preserved
-parts-preserved g c =
-    let within = rw (c.rest-in-parts.ensures) at c.check-step.ensures.used.0 in
-    let says = rw (c.rest-in-parts.ensures) at (c.check-step.ensures.says c.parts.invariant.checked.taken c.parts.invariant.checked.marks c.parts.invariant.checked.stands) in
-    let a = taken_to (g.F.Folder.held c.args.files.now) c.args.path.now c.args.options c.args.order c.parts.machine c.check-step.new.self c.parts.parts c.take.new.self c.parts.invariant.checked c.check-step.result.used within
-    c.take.ensures.rest c.take.ensures.start c.take.ensures.source c.check-step.ensures.limits c.check-step.ensures.order c.check-step.ensures.keys in
-    let now : checked.IsCheckedTo (g.F.Folder.held c.args.files.now) c.args.path.now c.args.options c.args.order c.check-step.new.self c.take.new.self = elim c.match-step.branch [
-      | in-Done+else-not-is_spent w ↦ checked.done_checked (g.F.Folder.held c.args.files.now) c.args.path.now c.args.options c.args.order c.check-step.new.self c.take.new.self _ a _ says w.in-Done.is
-      | in-More+else-not-goes_on-2 w ↦ checked.more_checked (g.F.Folder.held c.args.files.now) c.args.path.now c.args.options c.args.order c.check-step.new.self c.take.new.self _ a (checked.more_is _ _ _ w.in-More.is says).1
-    ] in
-    record {
-      checked = checked.next_checked (g.F.Folder.held c.args.files.now) c.args.path.now c.args.options c.args.order c.check-step.new.self c.take.new.self c.read_on.new.self _ c.parts.invariant.keeps now c.in_ok-read_on.ensures.read;
-      keeps = keeps_keeps _ _ _ c.parts.invariant.keeps c.read_on.ensures.keeps;
-      same = c.read_on.ensures.same ∙ c.parts.invariant.same;
-    }
-
-pub returns-in_err-read_on-clause-fault : goal.returns-in_err-read_on-clause-fault
-returns-in_err-read_on-clause-fault g c =
-    let p = err_from_is_err_and c.from_residual-in_err-read_on.result c.from_residual-in_err-read_on.ensures.1 in
-    let within = rw (c.rest-in-parts.ensures) at c.check-step.ensures.used.0 in
-    let says = rw (c.rest-in-parts.ensures) at (c.check-step.ensures.says c.parts.invariant.checked.taken c.parts.invariant.checked.marks c.parts.invariant.checked.stands) in
-    let a = taken_to (g.F.Folder.held c.args.files.now) c.args.path.now c.args.options c.args.order c.parts.machine c.check-step.new.self c.parts.parts c.take.new.self c.parts.invariant.checked c.check-step.result.used within
-    c.take.ensures.rest c.take.ensures.start c.take.ensures.source c.check-step.ensures.limits c.check-step.ensures.order c.check-step.ensures.keys in
-    rw (p.1, p.2) (checked.no_part_there (g.F.Folder.held c.args.files.now) c.args.path.now c.args.options c.args.order c.check-step.new.self c.take.new.self _ a _ c.parts.invariant.keeps _ c.in_err-read_on.ensures.fault)
-
-pub returns-in_err-read_on-clause-keeps : goal.returns-in_err-read_on-clause-keeps
-returns-in_err-read_on-clause-keeps g c = keeps_keeps _ _ _ c.parts.invariant.keeps c.read_on.ensures.keeps
+pub returns-then-goes_on-clause-fault : goal.returns-then-goes_on-clause-fault
+returns-then-goes_on-clause-fault g c = if_err c.size_in_parts.result _ _ (λ fault h. h (g.F.Folder.held c.args.files.now) c.open.ensures.keeps c.in_ok-parts.ensures.begins) c.size_in_parts.ensures.fault
