@@ -99,7 +99,7 @@ static int events_by(size_t part, size_t space) {
 static int checked_by(size_t part) {
     struct naltvigo_checker checker;
     size_t used, at = 0;
-    uint32_t s = naltvigo_checker_new(LIMITS(256, NALTVIGO_BYTES_MAX), &checker);
+    uint32_t s = naltvigo_checker_new(OPTIONS(0, 256, NALTVIGO_BYTES_MAX), &checker);
     while (s == NALTVIGO_OK || s == NALTVIGO_MORE) {
         size_t offered = canonical.length - at < part ? canonical.length - at : part;
         s = naltvigo_checker_take(&checker, canonical.at + at, offered, &used, &why);
