@@ -14,6 +14,7 @@ umask 022
 chmod 755 "$scratch"
 cp -r "${1:-$root/dist}" "$scratch/dist"
 chmod -R a+rX "$scratch/dist"
+cp -r "$root/bindings/sql" "$scratch/sql"
 . "$root/scripts/lib/databases.sh"
 . "$root/scripts/lib/postgresql.sh"
 
