@@ -145,7 +145,7 @@ def several_files():
     words = [PROGRAM, "check", "two\n", "one", "absent", "one"]
     ended = subprocess.run(words, cwd=FOLDER, stdout=subprocess.PIPE, stderr=subprocess.STDOUT)
     line = b"one: accepted 2 bytes\n"
-    expect("several files, in order", ended, 3, refused + line + b"absent: cannot read absent\n" + line)
+    expect("several files, in order", ended, 3, refused + line + b"absent: cannot read absent\n" + line, None)
     with open("/dev/full", "wb") as full:
         ended = subprocess.run([PROGRAM, "check", "--explain", "one", "one"], cwd=FOLDER, stdout=full, stderr=subprocess.PIPE)
     expect("several files to a full device", ended, 3, None, b"cannot write standard output\n  Standard output is closed or full.\n")
