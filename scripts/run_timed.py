@@ -32,7 +32,7 @@ def text(start, number):
 def keys_of(size):
     """Keys for maps of about this size, by name."""
     return {
-        "integers": [head(0, n) for n in range(size // 4)],
+        "integers": [head(0, n) for n in range(size // 6)],
         "integers from the last to the first": [head(0, n) for n in reversed(range(size // 6))],
         "texts with one start": [text(min(1000, size // 10), n) for n in range(size // min(1020, size // 9))],
         "long texts with one start": [text(size // 20, n) for n in range(17)],
