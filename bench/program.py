@@ -163,7 +163,7 @@ def size_of(folder, name, command):
 
 
 def print_tables(cborc, folder):
-    print(f"Processor time, least of {TURNS}. What is `of canonical` reads the canonical bytes, the others what stands here.\n")
+    print(f"Processor time, least of {TURNS}. The columns `of canonical` read the canonical bytes of the input, the others the input itself.\n")
     speeds = " | ".join(f"`{it}`, MB/s" for it in COMMANDS)
     peaks = " | ".join(f"`{it}`, peak memory, MiB" for it in MEASURED)
     print(f"| input | bytes | `canon`, ms | {speeds} | {peaks} |")

@@ -10,6 +10,7 @@ if a run returns something else than it should.
 import filecmp
 import os
 import random
+import shutil
 import sys
 
 import program
@@ -74,11 +75,16 @@ def print_sequences(cborc, folder):
     write_claims(folder)
     count = UNLIKE * TIMES
     accepted = b"accepted %d items\n" % count
-    ordered, unordered = f"{folder}/claims.bytewise", f"{folder}/claims.cbor"
+    ordered, unordered, array = f"{folder}/claims.bytewise", f"{folder}/claims.cbor", f"{folder}/claims.array"
+    with open(ordered, "rb") as members, open(array, "wb") as file:
+        file.write(b"\x9a" + count.to_bytes(4, "big"))
+        shutil.copyfileobj(members, file)
+    size = os.path.getsize(array)
     rows = [
         ("`check --seq`, in order", ["check", "--seq", ordered], accepted, "stdout"),
         ("`check --seq`, out of order", ["check", "--seq", unordered], accepted, "stdout"),
         ("`check --strict --seq`, in order", ["check", "--strict", "--seq", ordered], accepted, "stdout"),
+        ("`check --strict --bytes 400000000` of an array of them", ["check", "--strict", "--bytes", "400000000", array], b"accepted %d bytes\n" % size, "stdout"),
         ("`canon --seq`, out of order, to a file", ["canon", "--seq", unordered, f"{folder}/out"], b"", "stdout"),
         ("`show --seq`, in order, to `/dev/null`", ["show", "--seq", ordered], b"", "/dev/null"),
     ]
@@ -93,7 +99,7 @@ def print_sequences(cborc, folder):
     with open(f"{folder}/out", "ab") as written:
         if not filecmp.cmp(written.name, ordered, shallow=False):
             faults.append("canon --seq: other bytes than the canonical ones")
-    for name in (ordered, unordered, f"{folder}/out"):
+    for name in (ordered, unordered, array, f"{folder}/out"):
         os.remove(name)
 
 

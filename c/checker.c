@@ -24,7 +24,7 @@ static uint32_t wanted_of(const struct row *row, uint32_t order, const uint8_t *
     return status;
 }
 
-/* Gives the bytes from..to, and compares. Returns whether the item goes on. */
+/* Passes the bytes from..to to the checker, and compares. Returns whether the item needs more bytes. */
 static int takes(struct naltvigo_checker *checker, const struct row *row, uint32_t order, const uint8_t *in, size_t from, size_t to) {
     struct naltvigo_refusal why = unset, wanted;
     size_t used = 999, length;

@@ -208,6 +208,20 @@ static void long_texts(void) {
     }
 }
 
+/* A long text is sought in maps alone, also where an array has it before a value. */
+static void long_text_in_an_array(void) {
+    static uint8_t items[256], out[256];
+    char key[65];
+    size_t needed = 0;
+    struct naltvigo_cursor array;
+    struct naltvigo_writer w = naltvigo_write_to(items, sizeof items);
+    memset(key, 'k', sizeof key);
+    naltvigo_put_array_of(&w, 2), naltvigo_put_text_of(&w, key, sizeof key), naltvigo_put_int(&w, 1);
+    check(naltvigo_finish(&w, NULL, out, sizeof out, &needed, NULL) == NALTVIGO_OK, "finish", "a long text");
+    array = naltvigo_open(out, needed, NULL, NULL);
+    leads_nowhere(naltvigo_at_text_of(array, key, sizeof key), NALTVIGO_WRONG_KIND, "a long key of an array");
+}
+
 /* ---- Opening, and one status for all */
 
 static void opening(void) {
@@ -230,7 +244,30 @@ static void opening(void) {
     leads_nowhere(naltvigo_open(keys, sizeof keys, &options, NULL), NALTVIGO_BAD_LIMITS, "no limits");
 }
 
-/* The first failure of several getters stays, and those after it return 0. */
+/* Each call on a cursor without an item returns a cursor with the same status. */
+static void each_call_on_each_status(void) {
+    const struct naltvigo_cursor map = open_hex(mixed), without[] = {
+        naltvigo_open((const uint8_t *)"\x18", 2, NULL, NULL), naltvigo_at_index(map, 0), naltvigo_at_int(map, 3),
+    };
+    static const uint32_t wanted[] = {NALTVIGO_REFUSED, NALTVIGO_WRONG_KIND, NALTVIGO_NOT_THERE};
+    char key[65];
+    memset(key, 'k', sizeof key);
+    for (size_t i = 0; i < 3; i++) {
+        const struct naltvigo_cursor at = without[i];
+        leads_nowhere(at, wanted[i], "status");
+        leads_nowhere(naltvigo_first(at), wanted[i], "first");
+        leads_nowhere(naltvigo_next(at), wanted[i], "next");
+        leads_nowhere(naltvigo_at_index(at, 1), wanted[i], "at_index");
+        leads_nowhere(naltvigo_at_encoded(at, (const uint8_t *)"\1", 1), wanted[i], "at_encoded");
+        leads_nowhere(naltvigo_at_uint(at, 1), wanted[i], "at_uint");
+        leads_nowhere(naltvigo_at_int(at, 1), wanted[i], "at_int");
+        leads_nowhere(naltvigo_at_text(at, "b"), wanted[i], "at_text");
+        leads_nowhere(naltvigo_at_text_of(at, key, sizeof key), wanted[i], "at_text_of, a long key");
+        leads_nowhere(naltvigo_at_tag(at, 7), wanted[i], "at_tag");
+    }
+}
+
+/* The status is that of the first failure of several getters, and the getters after it return 0. */
 static void one_status(void) {
     const struct naltvigo_cursor map = open_hex(mixed);
     uint32_t status = NALTVIGO_OK;
@@ -252,7 +289,9 @@ int main(void) {
     pairs();
     tags();
     long_texts();
+    long_text_in_an_array();
     opening();
+    each_call_on_each_status();
     one_status();
     printf("%d checks of a cursor, %d fail\n", checks, faults);
     return faults != 0;

@@ -6,7 +6,7 @@
 
 #include <stdio.h>
 
-/* An input, the refusal that check_canonical or check_valid gives, and the text. */
+/* An input, the refusal that check_canonical or check_valid returns, and the text. */
 static const struct {
     const char *in;
     int strict;

@@ -151,7 +151,7 @@ static uint32_t take_parts(struct naltvigo_checker *checker, const uint8_t *item
     return status;
 }
 
-/* Whether a checker that refused memory for a byte that it used says so again, and goes on after a restart. */
+/* Whether a checker that had no memory for a byte returns NO_MEMORY again, and works after a restart. */
 static int goes_on(struct naltvigo_checker *checker, const uint8_t *item, size_t length, size_t part, size_t used) {
     const struct naltvigo_refusal first = why;
     size_t now = 9;
@@ -162,7 +162,7 @@ static int goes_on(struct naltvigo_checker *checker, const uint8_t *item, size_t
     return bad | (take_parts(checker, item, length, part, &now) != NALTVIGO_OK || now != length);
 }
 
-/* A checker's own memory and that for its keys. */
+/* A checker's own memory and that for its keys. It stores no key of an item that one part has whole. */
 static int refuse_checker(const char *name, size_t part) {
     static uint8_t item[1024];
     const size_t length = nested(item);
@@ -184,7 +184,7 @@ static int refuse_checker(const char *name, size_t part) {
         naltvigo_checker_free(&checker);
         bad |= live != 0 || checker.memory;
     }
-    bad |= of_keys == 0 || of_keys > 40;
+    bad |= (of_keys == 0) != (part >= length) || of_keys > 40;
     printf("%-16s %3ld requests, each refused in turn: %s\n", name, n - 2, bad ? "WRONG" : "as said, nothing is lost");
     return bad;
 }
@@ -198,7 +198,7 @@ int main(void) {
     bad |= refuse_each("diagnostic", diagnostic, NALTVIGO_OK);
     bad |= refuse_each("explain", explain, NALTVIGO_OK);
     bad |= refuse_each("finish", finish, NALTVIGO_OK);
-    bad |= refuse_checker("checker", 1000) | refuse_checker("checker by bytes", 1);
+    bad |= refuse_checker("checker", 1000) | refuse_checker("checker by parts", 16) | refuse_checker("checker by bytes", 1);
     bad |= refuse_each("open and get", look_up, NALTVIGO_OK) || taken != 0;
     bad |= refuse_each("check_canonical", check_canonical, NALTVIGO_REFUSED) || taken != 0;
     bad |= refuse_each("next_canonical", next_canonical, NALTVIGO_REFUSED) || taken != 0;

@@ -185,6 +185,38 @@ static int puts_row(const char *(*put)(int, struct naltvigo_writer *), int row) 
     return 1;
 }
 
+/* Strings and encoded items of each width of the head, and counts that need eight bytes. The heads are of section 3. */
+static void long_ones(void) {
+    static const struct {
+        size_t length;
+        const char *head;
+    } strings[] = {{24, "5818"}, {255, "58ff"}, {256, "590100"}, {300, "59012c"}, {65535, "59ffff"}, {65536, "5a00010000"}, {70000, "5a00011170"}};
+    static uint8_t from[70000], items[70005], again[70005];
+    memset(from, 'a', sizeof from);
+    for (size_t i = 0; i < sizeof strings / sizeof *strings; i++) {
+        const size_t length = strings[i].length;
+        for (int is_text = 0; is_text < 2; is_text++) {
+            struct naltvigo_writer w = naltvigo_write_to(items, sizeof items), once = naltvigo_write_to(again, sizeof again);
+            size_t n;
+            uint8_t *head = unhex(strings[i].head, &n);
+            head[0] = (uint8_t)(head[0] + 32 * is_text); /* major type 3 */
+            if (is_text) naltvigo_put_text_of(&w, (const char *)from, length);
+            else naltvigo_put_bytes(&w, from, length);
+            check(w.status == NALTVIGO_OK && w.needed == n + length, "a long string", strings[i].head);
+            check(memcmp(items, head, n) == 0 && memcmp(items + n, from, length) == 0, "its bytes", strings[i].head);
+            naltvigo_put_encoded(&once, items, w.needed);
+            check(once.status == NALTVIGO_OK && once.needed == w.needed && memcmp(items, again, w.needed) == 0, "encoded", strings[i].head);
+            free(head);
+        }
+    }
+    for (int is_map = 0; is_map < 2; is_map++) {
+        struct naltvigo_writer w = naltvigo_write_to(items, sizeof items);
+        if (is_map) naltvigo_put_map_of(&w, UINT64_C(1) << 32);
+        else naltvigo_put_array_of(&w, UINT64_C(1) << 32);
+        check(w.needed == 9 && memcmp(items, is_map ? "\xbb\0\0\0\1\0\0\0\0" : "\x9b\0\0\0\1\0\0\0\0", 9) == 0, "a long count", is_map ? "map" : "array");
+    }
+}
+
 /* ---- What goes wrong in writing */
 
 /* There are no simple values from 24 to 31, and more space does not fix that. */
@@ -273,10 +305,10 @@ static void finishes_by_options(void) {
     check(naltvigo_finish(&writer, &options, NULL, 0, &needed, NULL) == NALTVIGO_REFUSED && needed == 0, "options", "depth");
 }
 
-/* A count that does not fit stays at the maximum. */
+/* A count that does not fit is the maximum. */
 static void counts_without_wrapping(void) {
     struct naltvigo_writer writer = naltvigo_write_to(NULL, 0);
-    writer.needed = SIZE_MAX - 1; /* as after so many bytes */
+    writer.needed = SIZE_MAX - 1; /* as if this number of bytes had been put */
     naltvigo_put_int(&writer, 1000);
     check(writer.needed == SIZE_MAX && writer.status == NALTVIGO_TOO_SMALL, "count", "greatest");
     writer = naltvigo_write_to(NULL, 100); /* nothing is written to a null buffer, whatever its length */
@@ -291,6 +323,7 @@ int main(void) {
     check(row == 21, "rows", "of scalars");
     for (row = 0; puts_row(put_container, row); row++) continue;
     check(row == 9, "rows", "of containers");
+    long_ones();
     simple_values_that_do_not_exist();
     only_whole_items_are_put();
     mistakes_are_refused();

@@ -1,8 +1,8 @@
 """Checks that no string in one piece is copied into a view's arena, for fuzz/memory.py.
 
 `read_view` reads each valid row of the conformance tables and random valid items. It reads each once more with longer
-strings: to each byte string and text in one piece, key or member, so many bytes are added that a copy would be seen in the
-arena. The arena must have the same size for both.
+strings: bytes are added to each byte string and text in one piece, key or member, so that a copy would make the arena larger. The
+arena must have the same size for both.
 """
 
 import random

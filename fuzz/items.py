@@ -150,8 +150,8 @@ class Items:
         """Containers in one another, around the greatest depth."""
         opener = self.chance.choice([b"\x81", b"\x9f", b"\xc1", b"\xa1\x00", b"\xbf\x00", b"\xa1", b"\xd8\x20"])
         levels = self.chance.choice([1, 2, 100, 255, 256, 257, 1023, 1024, 1025])
-        behind = {b"\x9f": b"\xff", b"\xbf\x00": b"\xff", b"\xa1": b"\x00"}.get(opener, b"")
-        return opener * levels + b"\x00" + behind * self.chance.choice([levels, levels, levels - 1])
+        after = {b"\x9f": b"\xff", b"\xbf\x00": b"\xff", b"\xa1": b"\x00"}.get(opener, b"")
+        return opener * levels + b"\x00" + after * self.chance.choice([levels, levels, levels - 1])
 
     def given(self):
         """An input, and the limits to read it within."""

@@ -216,14 +216,14 @@ class Form:
             key = self.key(levels, kept, may_close=count is None)
             if key is None:
                 break
-            spelled = self.bytes[place : self.at]
+            encoded = self.bytes[place : self.at]
             if meaning(key) in meanings:
                 self.plain.append(Complaint(self.at, ON_A_KEY, place, 11))
             meanings.add(meaning(key))
             for order in (BYTEWISE, LENGTH_FIRST):
-                if last is not None and key_of(order, spelled) <= key_of(order, last):
+                if last is not None and key_of(order, encoded) <= key_of(order, last):
                     self.strict[order].append(Complaint(self.at, ON_A_KEY, place, 16))
-            last = spelled
+            last = encoded
             found.append((key, self.item(levels)))
         self.dropped(kept)
         return found

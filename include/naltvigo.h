@@ -48,8 +48,8 @@
  *    called there. (The calls that allocate no memory may be made there. They are listed below.)
  *
  * Ownership
- *  - The library keeps no pointer after a call. Only a checker (naltvigo_checker.h) is the library's memory, and is freed by
- *    its own call.
+ *  - The library keeps no pointer of the caller's after a call. A checker (naltvigo_checker.h) has memory of the library. Free
+ *    it with naltvigo_checker_free. Nothing else has to be freed.
  *
  * Memory
  *  - Memory comes from the program's malloc, realloc and free. A call frees all of it before it returns, except for what a
@@ -66,7 +66,7 @@
  *    measured in the gate (c/stack.c), not proved.
  *
  * Threads
- *  - The library has no state (except, in the assembly of portable/ for x86-64, an atomic byte: what the processor can run).
+ *  - The library has no state. (The assembly of portable/ for x86-64 has one atomic byte: what the processor can run.)
  *    Any number of threads may call it at the same time, each with its own outputs. Inputs may be shared.
  *
  * Options
@@ -114,7 +114,7 @@ extern "C" {
 enum {
     NALTVIGO_OK = 0,         /* the result is in `out`; the input is accepted; the two inputs have the same value */
     NALTVIGO_REFUSED = 1,    /* an input is refused; `*refusal` says why and where */
-    NALTVIGO_TOO_SMALL = 2,  /* the result has `*needed` bytes, more than `out` has; `out` is unchanged */
+    NALTVIGO_TOO_SMALL = 2,  /* `out` is too small: the result has `*needed` bytes; `out` is unchanged */
     NALTVIGO_NO_MEMORY = 3,  /* out of memory; the offset in `*refusal` is 0 (but see naltvigo_diagnostic and
                               * naltvigo_checker_take) */
     NALTVIGO_BAD_ORDER = 4,  /* `order` is neither of the two orders */
@@ -229,7 +229,7 @@ enum {
 /* The width of an event without an argument: an indefinite length, or a break. */
 enum { NALTVIGO_NO_ARGUMENT = 255 };
 
-/* An event. A call leaves the elements of the array unchanged to which it writes no event. */
+/* An event. Elements of the array to which a call writes no event are unchanged. */
 struct naltvigo_event {
     uint64_t offset; /* the offset of its first byte, from the item's first byte */
     uint64_t number; /* the argument (for kind 1 the integer is -1 - number; for a map it is the number of pairs); for a
@@ -251,7 +251,7 @@ struct naltvigo_item {
 };
 
 /* The checker of an item that arrives in parts: a handle of the library's memory. naltvigo_checker_new_raw sets it, and it is
- * valid until naltvigo_checker_free_raw. Only the calls of a checker read or write it, and a copy of it is not passed to them. */
+ * valid until naltvigo_checker_free_raw. Only the calls of a checker may read or write it. Do not pass a copy of it to them. */
 struct naltvigo_checker {
     void *memory;
 };
@@ -336,7 +336,7 @@ uint32_t naltvigo_get_encoded_raw(const struct naltvigo_item *item, uint32_t fou
 /*
  * The exports of the checker of an item that arrives in parts: naltvigo_checker.h calls them, and says what they do.
  *
- * Each but the first needs a handle that naltvigo_checker_new_raw set, and that was not freed.
+ * All except the first require a handle that naltvigo_checker_new_raw has set and that was not freed.
  */
 uint32_t naltvigo_checker_new_raw(uint32_t order, uint32_t keys, uint32_t depth, uint64_t bytes,
                                   struct naltvigo_checker *checker);
@@ -350,10 +350,10 @@ uint32_t naltvigo_checker_free_raw(struct naltvigo_checker *checker);
  * naltvigo_canonicalise: the canonical bytes of an item (RFC 8949, section 4.2).
  *
  * The whole input must be one well-formed, valid item. Writes its canonical bytes, in the given order of keys, to the start
- * of `out`. `*needed` is their number if the status is OK or TOO_SMALL, else 0. With `out_length` 0 a caller gets the
- * number first, at the cost of a whole call. The result is hardly ever longer than the input: only arrays and maps of
- * indefinite length with 256 members or pairs or more grow, each by at most 7 bytes. Bytes of `out` after the result are
- * unchanged. If the status is not OK, all of `out` is unchanged.
+ * of `out`. `*needed` is their number if the status is OK or TOO_SMALL, else 0. To get only the number, pass `out_length` 0: this
+ * takes as long as a whole call. The result is hardly ever longer than the input: only arrays and maps of indefinite length with
+ * 256 members or pairs or more grow, each by at most 7 bytes. Bytes of `out` after the result are unchanged. If the status is
+ * not OK, all of `out` is unchanged.
  *
  * In one order of keys, two accepted inputs have equal results if and only if their values are the same, whatever the
  * limits. If a result is canonicalised again within the same limits, it does not change. Input that is already canonical is
@@ -579,8 +579,8 @@ static inline uint32_t naltvigo_machine_step(struct naltvigo_machine *machine, c
  * REFUSED if and only if naltvigo_check_canonical refuses. If the status is OK, items[0 .. *needed) are the whole input as an
  * item, and all items in it, in the order of their first bytes. The first item inside items[i] is items[i + 1]; the next item
  * after items[i] is items[i + items[i].entries]. The items of a map are a key, its value, the next key, and so on. `*needed`
- * is the number of entries if the status is OK or TOO_SMALL, else 0. An input of n bytes has at most n entries. With
- * `items_length` 0 a caller gets the number first, at the cost of a whole call.
+ * is the number of entries if the status is OK or TOO_SMALL, else 0. An input of n bytes has at most n entries. To get only the
+ * number, pass `items_length` 0: this takes as long as a whole call.
  *
  * If the status is TOO_SMALL, ignore what was written to `items`. For 2^32 or more entries the status is always TOO_SMALL. It
  * allocates no memory.

@@ -1,9 +1,10 @@
 /*
  * naltvigo_checker.h: the strict check of an item that arrives in parts (RFC 8949, section 4.2), for C99 and C++.
  *
- * After each part a checker says what naltvigo_next_canonical returns of all bytes so far, however they were cut, and MORE where
- * that is the refusal TRUNCATED. So a receiver refuses at the first wrong byte, and hashes or stores what is accepted, in
- * little memory: the last key of each open map, all of a key that is not complete, and some 10 KiB.
+ * After each part a checker returns what naltvigo_next_canonical returns for all bytes so far, except that it returns MORE where
+ * that call reports TRUNCATED. It does not matter where the item is cut into parts. So a receiver can hash or store an item as it
+ * arrives, and refuses it at the first wrong byte. A checker needs little memory: the last key of each open map, all bytes of a
+ * key that is not complete, and about 10 KiB.
  *
  *     struct naltvigo_checker checker;
  *     struct naltvigo_refusal why;
@@ -17,7 +18,7 @@
  *     }
  *     naltvigo_checker_free(&checker);
  *
- * The calls beneath are proved. These inline functions are C, and are tested, not proved.
+ * The exports that these inline functions call are proved. The inline functions are C: they are tested, not proved.
  */
 #ifndef NALTVIGO_CHECKER_H
 #define NALTVIGO_CHECKER_H
@@ -33,7 +34,7 @@ extern "C" {
 /*
  * naltvigo_checker_new: sets `*checker` to a checker before the first byte of an item. Free it with naltvigo_checker_free.
  *
- * If the status is not OK, `*checker` is one that every call refuses with BAD_MACHINE, and that needs no free.
+ * If the status is not OK, every call with `*checker` returns BAD_MACHINE, and `*checker` need not be freed.
  *
  * Returns OK, NO_MEMORY, BAD_ORDER, BAD_LIMITS.
  */
@@ -45,7 +46,8 @@ static inline uint32_t naltvigo_checker_new(const struct naltvigo_options *optio
 }
 
 /*
- * naltvigo_checker_restart: goes on with another item, with this order and the same limits, whatever became of the one before.
+ * naltvigo_checker_restart: begins another item, with this order and the same limits. The item before it may be complete, refused
+ * or not complete.
  *
  * Returns OK, BAD_ORDER, BAD_MACHINE.
  */
@@ -58,11 +60,10 @@ static inline uint32_t naltvigo_checker_restart(uint32_t order, struct naltvigo_
  * naltvigo_checker_take: checks the next part of the item. `*used` becomes the number of its bytes that belong to the item.
  *
  * OK: the item is complete and canonical, and ends after `*used` bytes. MORE: all bytes were used, and nothing is wrong so far.
- * REFUSED: `*refusal` is what naltvigo_next_canonical reports of all bytes so far, with offsets from the item's first byte.
- * NO_MEMORY: memory for a key was refused, after the number of bytes that `*refusal` has twice, and the checker goes on only
- * after a restart.
- * After OK, REFUSED or NO_MEMORY, further calls use nothing and return the same. A part of no bytes is allowed, and is not the
- * end.
+ * REFUSED: `*refusal` is what naltvigo_next_canonical reports for all bytes so far. Offsets count from the item's first byte.
+ * NO_MEMORY: there was no memory for a key. Both `offset` and `consumed` are the number of bytes consumed so far.
+ * After OK, REFUSED or NO_MEMORY, further calls consume nothing and return the same, until naltvigo_checker_restart. A part of no
+ * bytes is allowed. It does not mean that the item ends.
  *
  * Returns OK, MORE, REFUSED (reasons 2 to 10, 14 to 16, 20), NO_MEMORY, BAD_MACHINE.
  */
@@ -78,8 +79,8 @@ static inline uint32_t naltvigo_checker_take(struct naltvigo_checker *checker, c
 }
 
 /*
- * naltvigo_checker_end: says that no byte follows. An item that is not complete is REFUSED, with TRUNCATED at the number of
- * bytes taken.
+ * naltvigo_checker_end: call it if no more bytes follow. If the item is not complete, it is REFUSED with TRUNCATED. The offset is
+ * then the number of bytes consumed.
  *
  * Returns OK, REFUSED (reasons 1 to 10, 14 to 16, 20), NO_MEMORY, BAD_MACHINE.
  */
@@ -89,7 +90,7 @@ static inline uint32_t naltvigo_checker_end(struct naltvigo_checker *checker, st
     return naltvigo_checker_end_raw(checker, refusal ? refusal : &ignored);
 }
 
-/* naltvigo_checker_free: frees the memory of a checker. A checker that has none is left as it is. */
+/* naltvigo_checker_free: frees the memory of a checker. If the checker has no memory, it does nothing. */
 static inline void naltvigo_checker_free(struct naltvigo_checker *checker) {
     if (checker->memory) naltvigo_checker_free_raw(checker);
 }

@@ -54,8 +54,8 @@ static inline struct naltvigo_cursor naltvigo_open(const uint8_t *in, size_t in_
 /*
  * The calls below return a cursor at another item. For a cursor without an item they return a cursor with the same status.
  * So it is enough to check the status at the end of a chain of calls. WRONG_KIND: the item is not of the kind that the call
- * needs. NOT_THERE: there is no such member, or no pair with that key. A call reads the whole item that it returns, and in a
- * look-up the members or pairs before it.
+ * needs. NOT_THERE: there is no such member, or no pair with that key. A call reads the whole item that it returns. A look-up
+ * also reads the members or pairs before this item.
  */
 
 /* The first member of an array, the first key of a map, the content of a tag. */

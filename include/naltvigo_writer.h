@@ -138,7 +138,6 @@ static inline void naltvigo_put_map_of(struct naltvigo_writer *writer, uint64_t 
 
 /* An item in canonical bytes, from naltvigo_finish or naltvigo_get_encoded. If the bytes are not exactly one item, they would
  * change the meaning of the items after them: so the writer fails with NOT_THERE, and nothing is put. */
-
 static inline void naltvigo_put_encoded(struct naltvigo_writer *writer, const uint8_t *bytes, size_t length) {
     const uint8_t none = 0;
     writer->status = naltvigo_writer_encoded_raw(length ? bytes : &none, length, writer->out, writer->out_length,

@@ -66,8 +66,11 @@ def streams():
     expect("a key of another kind", run(["check", "--keys", "basic", "-"], b"\xa1\x80\x00"), 1, b"", b"refused 20 KeyKind at 1\n")
     few = limited(8 * 1024)
     with open("/dev/zero", "rb") as endless:
-        ended = subprocess.run([PROGRAM, "check", "-"], stdin=endless, capture_output=True, timeout=300, preexec_fn=few)
-        expect("no end", ended, 1, b"", b"refused 12 Trailing at 1\n")
+        # An item is read only as far as it is decided, whatever the limit is.
+        for command, printed in (["check"], b""), (["events"], b"0 unsigned 0 0\n"):
+            words = [PROGRAM, *command, "--bytes", "1000000000", "-"]
+            ended = subprocess.run(words, stdin=endless, capture_output=True, timeout=300, preexec_fn=few)
+            expect(f"no end: {command[0]}", ended, 1, printed, b"refused 12 Trailing at 1\n")
         for command in (["check"], ["events", "--seq"], ["check", "--seq"], ["show", "--seq"]):
             words = [PROGRAM, *command, "--hex", "-"]
             ended = subprocess.run(words, stdin=endless, capture_output=True, timeout=300, preexec_fn=few)

@@ -3,8 +3,9 @@
 
 A sequence costs what its items cost alone: `canon --seq` of 32 items of 250 nested maps, each out of order, takes at most
 1.2 times the instructions of 32 runs over one. An item costs what it costs in a sequence, also if the limit on its bytes is high:
-`check` of 6 MB takes at most 2.5 times the instructions of `check --seq`. valgrind counts; if it is missing, the last line
-says so.
+`check` of 6 MB takes at most 2.5 times the instructions of `check --seq`. `check --strict` of an array of 6 MB, which is checked as
+it is read, takes at most 2 times the instructions of `check --strict --seq` of its members. valgrind counts; if it is missing, the
+last line says so.
 """
 
 import re
@@ -16,6 +17,12 @@ from pathlib import Path
 
 ITEMS, LEVELS, PAYLOAD = 32, 250, 60000
 MEMBERS = 6_000_000
+# Seven claims (RFC 8392) in 75 bytes, in order.
+CLAIMS = (
+    b"\xa7\x01\x75coap://as.example.com\x02\x66abcdef\x03\x73coaps://example.com"
+    b"\x04\x1a\x56\x12\xae\xb0\x05\x1a\x56\x10\xfb\xf0\x06\x1a\x56\x10\xfb\xf0\x07\x42\x0b\x71"
+)
+SETS = 80_000
 
 
 def nested(levels, payload):
@@ -50,6 +57,14 @@ def times_of_an_item(program, folder):
     return instructions(program, ["check", *words], folder) / instructions(program, ["check", "--seq", *words], folder)
 
 
+def times_in_parts(program, folder):
+    """The cost of the strict check of an array longer than the first read, divided by that of its members as a sequence."""
+    (Path(folder) / "claims").write_bytes(b"\x9a" + SETS.to_bytes(4, "big") + CLAIMS * SETS)
+    (Path(folder) / "sets").write_bytes(CLAIMS * SETS)
+    words = ["check", "--strict", "--bytes", "1000000000"]
+    return instructions(program, [*words, "claims"], folder) / instructions(program, [*words, "--seq", "sets"], folder)
+
+
 def main():
     program = str(Path(sys.argv[1]).resolve())
     if not shutil.which("valgrind"):
@@ -58,9 +73,11 @@ def main():
     with tempfile.TemporaryDirectory() as folder:
         of_a_sequence = times_of_a_sequence(program, folder)
         of_an_item = times_of_an_item(program, folder)
+        in_parts = times_in_parts(program, folder)
     print(f"instructions: {ITEMS} nested items as one sequence take {of_a_sequence:.2f} times what they take alone")
     print(f"instructions: an item of {MEMBERS} bytes takes {of_an_item:.2f} times what it takes in a sequence")
-    return 0 if of_a_sequence <= 1.2 and of_an_item <= 2.5 else 1
+    print(f"instructions: a strict check in parts takes {in_parts:.2f} times what the members take in a sequence")
+    return 0 if of_a_sequence <= 1.2 and of_an_item <= 2.5 and in_parts <= 2 else 1
 
 
 if __name__ == "__main__":

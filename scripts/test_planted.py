@@ -35,7 +35,7 @@ FOLDERS = {
 }
 A_TURN = 3
 # those that compare no times, and read no table of rows by each call
-RUST_TESTS = ["calls", "checker", "checker_io", "items", "maps", "reader", "refused_memory", "room", "thresholds", "values"]
+RUST_TESTS = ["calls", "capacity", "checker", "checker_io", "items", "maps", "reader", "refused_memory", "thresholds", "values"]
 MEMORY = 4 << 30
 
 LIBRARY = f"NALTVIGO={os.environ.get('PREFIX', '')}"

@@ -169,7 +169,7 @@ refuses() { # SENTENCE COMMAND ..
     tr -s '\n ' ' ' <"$scratch/log" | grep -q "$1" || { cat "$scratch/log"; fail "${*:2} does not say: $1"; }
 }
 test_refusals() {
-    local no_target='naltvigo has no assembly for this target: there is x86_64' no_assembler='assembles files named .S, as gcc, clang and MinGW do'
+    local no_target='naltvigo has no assembly for this target: there is x86_64' no_assembler='which cannot assemble naltvigo.S. Use gcc, clang or MinGW, for a target in the table of portable/README.md'
     local make=(make -s -C "$root/portable" "OUT=$scratch/refused") cmake=(cmake -S "$root/portable" -B)
     mkdir "$scratch/refused"
     # one that compiles C, and one that does nothing

@@ -38,8 +38,8 @@ func written(input []byte, options Options, size int, call func(out []byte, need
 	}
 }
 
-// Canonicalise returns the canonical bytes of the one valid item that the whole input is, in any encoding. Two accepted
-// inputs have equal canonical bytes exactly if their values are the same.
+// Canonicalise returns the canonical bytes of the input, which must be one valid item, in any encoding. In the same order, two
+// accepted inputs have equal canonical bytes if and only if their values are the same.
 func Canonicalise(input []byte, options *Options) ([]byte, error) {
 	of := given(options)
 	with := of.c()
@@ -48,7 +48,7 @@ func Canonicalise(input []byte, options *Options) ([]byte, error) {
 	})
 }
 
-// CheckCanonical returns nil exactly if the whole input is one valid item in its canonical bytes.
+// CheckCanonical returns nil if and only if the whole input is one valid item in its canonical bytes.
 func CheckCanonical(input []byte, options *Options) error {
 	of := given(options)
 	with := of.c()
@@ -56,7 +56,7 @@ func CheckCanonical(input []byte, options *Options) error {
 	return outcome(C.naltvigo_check_canonical(first(input), C.size_t(len(input)), &with, &why), &why, input, of)
 }
 
-// CheckValid returns nil exactly if the whole input is one valid item, in any encoding.
+// CheckValid returns nil if and only if the whole input is one valid item, in any encoding.
 func CheckValid(input []byte, options *Options) error {
 	of := given(options)
 	with := of.c()
@@ -84,7 +84,7 @@ func Same(left, right []byte, options *Options) (bool, error) {
 	return status == C.NALTVIGO_OK, failure(status)
 }
 
-// Diagnostic returns the diagnostic text (RFC 8949, section 8) of the one valid item that the whole input is.
+// Diagnostic returns the diagnostic text (RFC 8949, section 8) of the input, which must be one valid item.
 func Diagnostic(input []byte, options *Options) (string, error) {
 	of := given(options)
 	with := of.c()

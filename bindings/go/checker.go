@@ -8,13 +8,14 @@ import (
 	"runtime"
 )
 
-// Checker checks that an item that arrives in parts of any length is in its canonical bytes. After each part it says what
-// CheckCanonical says of all bytes of the item so far, wherever they were cut, and nil where that is Truncated. So an item is
-// refused at the first wrong byte. It stores the last key of each open map, the key that is not complete, and some 10 KiB,
-// but no other byte of the item. If all bytes are at hand, CheckCanonical is several times faster.
+// Checker checks that an item that arrives in parts of any length is in its canonical bytes. After each part it returns what
+// CheckCanonical returns for all bytes of the item so far, except that it returns nil where that is Truncated. It does not
+// matter where the item is cut into parts. So an item is refused at the first wrong byte. A Checker stores the last key of each
+// open map, the key that is not complete, and about 10 KiB, but no other byte of the item. If you have all bytes,
+// CheckCanonical is several times faster.
 //
-// A refusal stays: each later call returns it, until Restart. Its offset counts from the item's first byte, and its path is $,
-// since the bytes are gone. After ErrMemory, too, only Restart goes on.
+// After a refusal, each call returns the same refusal, until Restart. Its offset counts from the item's first byte. Its path is
+// always $, because the bytes are no longer there. After ErrMemory, call Restart, too.
 //
 // NewChecker makes one, and Close frees it. One goroutine at a time may use it.
 type Checker struct {
@@ -26,7 +27,7 @@ type checkerState struct {
 	order    C.uint32_t
 	consumed uint64
 	complete bool
-	trailing bool // whether the item is refused for a byte after it, of which the library does not know
+	trailing bool // whether a byte after the item was refused: the library does not refuse it
 }
 
 // NewChecker returns a checker before an item's first byte.
@@ -41,7 +42,7 @@ func NewChecker(options *Options) (*Checker, error) {
 }
 
 // Take consumes bytes of the item from the start of a part, and returns their number. It is less than the part's length only
-// if the item is complete or refused. A part of no bytes is allowed, and is not the end.
+// if the item is complete or refused. A part of no bytes is allowed. It does not mean that the item ends.
 func (checker *Checker) Take(part []byte) (int, error) {
 	state := checker.state
 	if state.trailing {
@@ -58,8 +59,8 @@ func (checker *Checker) Take(part []byte) (int, error) {
 	return int(used), outcome(status, &why, nil, widest)
 }
 
-// Write is Take for exactly one item: a byte after it is refused as Trailing, and this refusal stays too. The number is that
-// of the part's bytes that belong to the item.
+// Write is Take for exactly one item: a byte after it is refused as Trailing, and after that each call returns this refusal. The
+// number is the number of the part's bytes that belong to the item.
 func (checker *Checker) Write(part []byte) (int, error) {
 	used, err := checker.Take(part)
 	if err == nil && used < len(part) {
@@ -74,8 +75,8 @@ func (checker *Checker) Complete() bool { return checker.state.complete }
 // Consumed returns the number of the item's bytes that were consumed.
 func (checker *Checker) Consumed() uint64 { return checker.state.consumed }
 
-// End says that no byte follows: it returns nil exactly if the item is complete, and nothing that follows it was written. An
-// item that is not complete is refused as Truncated.
+// End is for the end of the input. It returns nil if and only if the item is complete and no byte after it was written. An item
+// that is not complete is refused as Truncated.
 func (checker *Checker) End() error {
 	state := checker.state
 	if state.trailing {
@@ -86,7 +87,7 @@ func (checker *Checker) End() error {
 	return outcome(status, &why, nil, widest)
 }
 
-// Restart goes on with another item, with the same options, whatever became of the one before.
+// Restart begins another item, with the same options. The item before it may be complete, refused or not complete.
 func (checker *Checker) Restart() {
 	state := checker.state
 	C.naltvigo_checker_restart(state.order, &state.handle)
@@ -111,9 +112,9 @@ func (state *checkerState) refuseTrailing() error {
 	return refusedBy(&C.struct_naltvigo_refusal{reason: C.NALTVIGO_TRAILING, offset: at, consumed: at}, nil, widest)
 }
 
-// CheckReader returns nil exactly if all bytes of a reader are one item in its canonical bytes. It reads to the end, or until
-// a byte is refused, and stores no more than a Checker does. Of the same bytes, CheckCanonical returns the same refusal. Any
-// other error is the reader's. The number is that of the bytes that were consumed.
+// CheckReader returns nil if and only if all bytes of a reader are one item in its canonical bytes. It reads to the end, or until
+// a byte is refused, and stores no more than a Checker does. For the same bytes, CheckCanonical returns the same refusal. Any
+// other error is from the reader. The number is the number of bytes that were consumed.
 func CheckReader(from io.Reader, options *Options) (int64, error) {
 	checker, err := NewChecker(options)
 	if err != nil {

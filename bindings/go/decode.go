@@ -9,15 +9,15 @@ type part struct {
 	start, end C.uint64_t
 }
 
-// decoded returns the value of canonical bytes in bytewise order. Its strings of bytes lie in these, its texts and the
-// canonical bytes of its keys in one string.
+// decoded returns the value of canonical bytes in bytewise order. Its byte strings are slices of these bytes. Its texts and the
+// canonical bytes of its keys are slices of one string.
 func decoded(canonical []byte) (Value, error) {
 	items, err := indexed(canonical)
 	if err != nil {
 		return nil, err
 	}
 	text := string(canonical)
-	// Items come in the order of their first bytes, so from the last one on the members of each are the last parts made.
+	// Items are in the order of their first bytes. So in reverse order, the members of an item are the last parts that were made.
 	var parts []part
 	for i := len(items) - 1; i >= 0; i-- {
 		item := &items[i]
@@ -42,7 +42,7 @@ func memberCount(item *C.struct_naltvigo_item) int {
 	return 0
 }
 
-// made is the value of an item, whose members come in reverse order.
+// made is the value of an item. Its members are given in reverse order.
 func made(item *C.struct_naltvigo_item, members []part, canonical []byte, text string) Value {
 	last := len(members) - 1
 	switch item.kind {

@@ -5,7 +5,7 @@ import (
 	"encoding/binary"
 )
 
-// encoder writes an encoding of a value; Canonicalise, which is proved, makes its canonical bytes of it.
+// encoder writes an encoding of a value. Canonicalise, which is proved, makes the canonical bytes from it.
 type encoder struct {
 	out  []byte
 	stop bool // after the head that nests too deep, which Canonicalise refuses
@@ -86,7 +86,7 @@ func (made *encoder) head(kind byte, number uint64) {
 	}
 }
 
-// Equal reports whether two values are equal, which they are exactly if their canonical bytes are.
+// Equal reports whether two values are equal. They are if and only if their canonical bytes are equal.
 func Equal(left, right Value) bool {
 	todo := [][2]Value{{left, right}}
 	for len(todo) > 0 {

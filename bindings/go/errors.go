@@ -54,8 +54,8 @@ func (refused *RefusedSide) Error() string {
 // Unwrap returns the *Refused.
 func (refused *RefusedSide) Unwrap() error { return refused.Cause }
 
-// FieldError is the error of GetInt64, GetUint64, GetBool, GetText and GetBytes, and has the key. It wraps ErrNotThere,
-// ErrWrongKind, ErrOutOfRange, or why the key or the item cannot be looked up: errors.Is finds it.
+// FieldError is the error of GetInt64, GetUint64, GetBool, GetText and GetBytes. It has the key. It wraps ErrNotThere,
+// ErrWrongKind, ErrOutOfRange, or the error of the look-up: errors.Is finds them.
 type FieldError struct {
 	Key   Value
 	Cause error

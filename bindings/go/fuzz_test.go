@@ -72,7 +72,7 @@ func FuzzValues(f *testing.F) {
 	})
 }
 
-// A stream in parts of one byte has the items of one that comes at once, and they are those of NextValid.
+// A stream in parts of one byte has the same items as a stream in one part, and NextValid finds the same items.
 func FuzzReader(f *testing.F) {
 	seeds(f)
 	f.Fuzz(func(t *testing.T, input []byte) {

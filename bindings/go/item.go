@@ -12,7 +12,7 @@ type Item struct {
 	content int
 }
 
-// Open returns the item that the whole input is, if these are its canonical bytes. It fails as CheckCanonical does.
+// Open returns the item of an input that is one item in its canonical bytes. Otherwise it fails as CheckCanonical does.
 func Open(input []byte, options *Options) (Item, error) {
 	if err := CheckCanonical(input, options); err != nil {
 		return Item{}, err
@@ -54,7 +54,7 @@ func (item Item) Len() int {
 // Int64 returns the integer that the item is.
 func (item Item) Int64() (int64, error) { return toInt64(item.kind, item.number) }
 
-// Uint64 returns the integer from 0 that the item is.
+// Uint64 returns the integer that the item is, if it is 0 or greater.
 func (item Item) Uint64() (uint64, error) {
 	switch item.kind {
 	case KindUnsigned:
@@ -98,7 +98,7 @@ func (item Item) Tag() (uint64, Item, error) {
 	return item.number, content, err
 }
 
-// Get returns the value at a key of the map that the item is, or ErrNotThere. It goes over the pairs before it.
+// Get returns the value of a key in the map that the item is, or ErrNotThere. It reads the pairs before this key.
 func (item Item) Get(key Value) (Item, error) {
 	with := widest
 	with.Order = item.order
@@ -114,7 +114,7 @@ func (item Item) Get(key Value) (Item, error) {
 // GetInt64 returns the integer at a key. It fails, as the four calls after it do, with a *FieldError.
 func (item Item) GetInt64(key Value) (int64, error) { return field(item, key, Item.Int64) }
 
-// GetUint64 returns the integer from 0 at a key.
+// GetUint64 returns the integer at a key, if it is 0 or greater.
 func (item Item) GetUint64(key Value) (uint64, error) { return field(item, key, Item.Uint64) }
 
 // GetBool returns the boolean at a key.
@@ -138,7 +138,7 @@ func field[T any](item Item, key Value, as func(Item) (T, error)) (T, error) {
 	return value, err
 }
 
-// At returns the member of an array at an index, or ErrNotThere. It goes over the members before it.
+// At returns the member of an array at an index, or ErrNotThere. It reads the members before this member.
 func (item Item) At(index int) (Item, error) {
 	if item.kind != KindArray {
 		return Item{}, ErrWrongKind
@@ -153,7 +153,7 @@ func (item Item) At(index int) (Item, error) {
 	return Item{}, ErrNotThere
 }
 
-// Members goes over what an array, a map or a tag holds.
+// Members is an iterator over the items in an array, a map or a tag.
 type Members struct {
 	rest  []byte
 	left  uint64

@@ -12,22 +12,22 @@ type Pair struct{ Key, Value Value }
 // The zero Map has no pairs. Do not change the bytes of a key.
 type Map struct{ pairs []encodedPair }
 
-// The canonical bytes of a key are part of the string of all bytes that it was decoded from, so that keys within keys take
-// no memory of their own.
+// The canonical bytes of a key are a slice of the string of all bytes from which it was decoded. So keys within keys need no
+// further memory.
 type encodedPair struct {
 	encoded string
 	Pair
 }
 
-// RepeatedKeyError is the error of NewMap where two keys are equal.
+// RepeatedKeyError is the error of NewMap if two keys are equal.
 type RepeatedKeyError struct{ Key Value }
 
 func (err *RepeatedKeyError) Error() string {
 	return fmt.Sprintf("naltvigo: two keys of a map are equal: %v", err.Key)
 }
 
-// NewMap returns the map of these pairs, in any order. It fails with a *RepeatedKeyError where two keys are equal, and as
-// Marshal does if a key has no encoding.
+// NewMap returns the map of these pairs, in any order. It fails with a *RepeatedKeyError if two keys are equal. If a key has no
+// encoding, it fails as Marshal does.
 func NewMap(pairs ...Pair) (Map, error) {
 	made := make([]encodedPair, len(pairs))
 	for i, pair := range pairs {

@@ -12,7 +12,7 @@ import (
 const readSize = 1 << 16
 
 // Reader splits a stream into the items of a sequence (RFC 8742). Its memory is bounded by the longest item, which the
-// options limit, and one read.
+// options limit, and the buffer of one read.
 type Reader struct {
 	from      io.Reader
 	options   Options
@@ -32,7 +32,7 @@ func NewReader(from io.Reader, options *Options) *Reader {
 }
 
 // NewCanonicalReader returns a reader of items in their canonical bytes. An item that is not canonical is refused at the
-// first wrong byte, without a further read.
+// first wrong byte, and nothing more is read.
 func NewCanonicalReader(from io.Reader, options *Options) *Reader {
 	return &Reader{from: from, options: given(options), canonical: true}
 }
@@ -41,7 +41,7 @@ func NewCanonicalReader(from io.Reader, options *Options) *Reader {
 func (reader *Reader) Offset() uint64 { return reader.offset }
 
 // Next returns the bytes of the next item, and io.EOF after the last one. Offsets of a *Refused count from the item's first
-// byte; every later call returns it again. Any other error is the stream's: the next call reads on, and nothing is lost.
+// byte; every later call returns it again. Any other error is from the stream: the next call reads on, and nothing is lost.
 func (reader *Reader) Next() ([]byte, error) {
 	for reader.failed == nil {
 		if item, ok := reader.front(); ok {
@@ -87,7 +87,7 @@ func (reader *Reader) front() ([]byte, bool) {
 	return item, true
 }
 
-// beginCut makes what takes the bytes of the next item as they come.
+// beginCut begins the check of the next item, whose bytes arrive in parts.
 func (reader *Reader) beginCut() (err error) {
 	switch {
 	case reader.cut != nil:
@@ -106,7 +106,7 @@ func (reader *Reader) beginCut() (err error) {
 	return nil
 }
 
-// read appends what one read brings.
+// read appends the bytes of one read.
 func (reader *Reader) read() error {
 	size := len(reader.buffer)
 	if cap(reader.buffer)-size < readSize {
@@ -133,13 +133,13 @@ func (reader *Reader) read() error {
 	return io.ErrNoProgress
 }
 
-// cutItem takes each byte of an item once.
+// cutItem is an item that is not complete yet. It reads each byte of the item once.
 type cutItem interface {
-	// isCut reports whether more bytes must follow these, of which it took some before.
+	// isCut reports whether the item needs more bytes than these. It has read some of them before.
 	isCut(item []byte) bool
 }
 
-// cutChecker finds out whether an item is complete, or not canonical.
+// cutChecker is a cutItem that must be canonical.
 type cutChecker struct{ *Checker }
 
 func (cut cutChecker) isCut(item []byte) bool {
@@ -147,7 +147,7 @@ func (cut cutChecker) isCut(item []byte) bool {
 	return err == nil && !cut.Complete()
 }
 
-// cutMachine finds out whether an item is complete, or not well-formed.
+// cutMachine is a cutItem in any encoding. It checks that the item is well-formed.
 type cutMachine struct {
 	machine C.struct_naltvigo_machine
 	events  [256]C.struct_naltvigo_event

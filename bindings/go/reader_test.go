@@ -107,7 +107,7 @@ func TestNoByteAfterAWrongOne(t *testing.T) {
 	}
 }
 
-// failing gives its reads one after another: bytes, an error, or both.
+// failing returns the results of its reads one after another: bytes, an error, or both.
 type failing struct {
 	reads []string
 	errs  []error

@@ -24,7 +24,7 @@ const (
 type (
 	// Unsigned is an integer from 0 to 2^64-1.
 	Unsigned uint64
-	// Negative is the integer -1 - n, down to -2^64. Int makes it of an int64.
+	// Negative is the integer -1 - n, down to -2^64. Int makes one from an int64.
 	Negative uint64
 	// Bytes is a byte string.
 	Bytes []byte
@@ -32,7 +32,7 @@ type (
 	Text string
 	// Array is an array of values.
 	Array []Value
-	// Tag is a tag over its content.
+	// Tag is a tag with its content.
 	Tag struct {
 		Number  uint64
 		Content Value
@@ -74,7 +74,7 @@ func Bool(is bool) Value {
 	return False
 }
 
-// AsInt64 returns the integer that a value is: ErrWrongKind if it is none, ErrOutOfRange if it does not fit.
+// AsInt64 returns the integer that a value is: ErrWrongKind if it is not an integer, ErrOutOfRange if it does not fit.
 func AsInt64(value Value) (int64, error) {
 	switch n := value.(type) {
 	case Unsigned:
@@ -98,7 +98,7 @@ func toInt64(kind int, number uint64) (int64, error) {
 }
 
 // Marshal returns the canonical bytes of a value. It fails as Canonicalise does: if the value nests too deep or is too
-// long for the options, if a Text is not UTF-8, or a Simple is 24 to 31. A nil Value is ErrWrongKind.
+// long for the options, or if a Text is not UTF-8 or a Simple is 24 to 31. For a nil Value the error is ErrWrongKind.
 func Marshal(value Value, options *Options) ([]byte, error) {
 	encoded, err := appended(nil, value, given(options).Depth)
 	if err != nil {

@@ -33,7 +33,7 @@ func TestVectors(t *testing.T) {
 			t.Fatal(head, err)
 		}
 		input, _ := hex.DecodeString(strings.TrimPrefix(digits, "-"))
-		if found := answers(before, input, &options); found != wanted {
+		if found := results(before, input, &options); found != wanted {
 			t.Fatalf("%s\nwanted %s\nfound  %s", head, wanted, found)
 		}
 		before = input
@@ -43,24 +43,24 @@ func TestVectors(t *testing.T) {
 	}
 }
 
-// answers are the last seven columns of a line.
-func answers(before, input []byte, options *Options) string {
+// results are the last seven columns of a line.
+func results(before, input []byte, options *Options) string {
 	canonical, err := Canonicalise(input, options)
-	found := []string{answer(err, bytesOr(canonical))}
-	found = append(found, answer(CheckValid(input, options), "-"), answer(CheckCanonical(input, options), "-"))
+	found := []string{result(err, bytesOr(canonical))}
+	found = append(found, result(CheckValid(input, options), "-"), result(CheckCanonical(input, options), "-"))
 	text, err := Diagnostic(input, options)
-	found = append(found, answer(err, bytesOr([]byte(text))))
+	found = append(found, result(err, bytesOr([]byte(text))))
 	size, err := NextValid(input, options)
-	found = append(found, answer(err, fmt.Sprint(size)))
+	found = append(found, result(err, fmt.Sprint(size)))
 	size, err = NextCanonical(input, options)
-	found = append(found, answer(err, fmt.Sprint(size)))
+	found = append(found, result(err, fmt.Sprint(size)))
 	same, err := Same(before, input, options)
 	var side *RefusedSide
 	switch {
 	case errors.As(err, &side) && side.Right:
-		found = append(found, answer(err, "1"))
+		found = append(found, result(err, "1"))
 	case err != nil:
-		found = append(found, answer(err, "0"))
+		found = append(found, result(err, "0"))
 	case same:
 		found = append(found, "0 -")
 	default:
@@ -76,7 +76,7 @@ func bytesOr(bytes []byte) string {
 	return hex.EncodeToString(bytes)
 }
 
-func answer(err error, more string) string {
+func result(err error, more string) string {
 	var refused *Refused
 	switch {
 	case err == nil:

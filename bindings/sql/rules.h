@@ -119,7 +119,7 @@ static inline struct naltvigo_cursor step_by_integer(struct naltvigo_cursor at, 
     return naltvigo_at_index(at, (uint64_t)step);
 }
 
-/* A text. NULL if this is none, or has a zero character: SQL has no such text. */
+/* A text. NULL if the item is not a text, or if the text has a zero character: SQL has no such text. */
 static inline const char *text_for_sql(struct naltvigo_cursor at, size_t *length) {
     uint32_t status = NALTVIGO_OK;
     const char *text = naltvigo_get_text(at, length, &status);

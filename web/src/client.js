@@ -26,14 +26,14 @@ export class Client {
         };
     }
 
-    #take({ id, answer, problem, progress }) {
+    #take({ id, result, problem, progress }) {
         if (progress) {
             this.progress(progress);
             return;
         }
         const { resolve, reject } = this.#waiting.get(id);
         this.#waiting.delete(id);
-        if (problem === undefined) resolve(answer);
+        if (problem === undefined) resolve(result);
         else reject(new Error(problem));
     }
 

@@ -163,7 +163,7 @@ export class Inspection {
         }
     }
 
-    /** Finds the row of a mark. A row after the last one is that of a refusal without an event. */
+    /** Finds the row of a mark. A refusal without an event has the row after the last one. */
     #locate(found) {
         if (!found) return;
         const { trace } = this, { offset } = found;

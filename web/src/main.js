@@ -125,7 +125,7 @@ async function inspect() {
 
 function inspectSoon() {
     byId('answer').ariaBusy = 'true';
-    result.inert = true; // it stays in sight, but is of the input before
+    result.inert = true; // it is still shown, but belongs to the previous input
     clearTimeout(timer);
     timer = setTimeout(inspect, PAUSE);
 }

@@ -75,7 +75,7 @@ export const knownContent = (known, tag) => MESSAGES.get(tag) ?? known;
 export const knownMember = (known, index) => known?.parts?.[index];
 export const knownValue = (known, key) => known?.inner?.get(key);
 
-/** The name of a number that is a key of a map, and of one that is the value of a key; undefined if there is none. */
+/** The name of a number that is a key of a map, and of a number that is the value of a key; undefined if it has no name. */
 export const keyName = (known, key) => known?.labels?.get(key);
 export const valueName = (known, key, value) => known?.values?.get(key)?.get(value);
 

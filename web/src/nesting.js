@@ -103,7 +103,7 @@ export class Nesting {
         this.#complete();
     }
 
-    /** An item is complete, and whatever ends with it. */
+    /** An item is complete, and so is every container that ends with it. */
     #complete() {
         for (let { top } = this; top !== undefined; { top } = this) {
             top.seen += 1;

@@ -1,4 +1,4 @@
-// A table of many rows, of which it holds a page.
+// A table of many rows, which shows one page of them at a time.
 import { byId, digits, element } from './dom.js';
 
 export class Pages {
@@ -6,7 +6,7 @@ export class Pages {
     #from = 0;
     #turn = 0;
 
-    /** `load(from, count)` resolves to rows, and `rowOf(row)` gives the row of the table for one. */
+    /** `load(from, count)` resolves to rows, and `rowOf(row)` returns the table row for one of them. */
     constructor(id, { title, columns, size, load, rowOf }) {
         Object.assign(this, { size, load, rowOf });
         this.caption = element('caption');

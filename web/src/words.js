@@ -54,7 +54,7 @@ function half(bits) {
     return sign * (exponent ? (1 + fraction / 1024) * 2 ** (exponent - 15) : fraction / 1024 * 2 ** -14);
 }
 
-/** The float at an offset: its words, and where it ends; undefined if there is none, or a part of one. */
+/** The float at an offset: its description, and where it ends; undefined if there is no float, or only a part of one. */
 export function floatAt(bytes, offset) {
     const [precision, width] = WIDTHS.get(bytes[offset]) ?? [], end = offset + 1 + width;
     if (!width || end > bytes.length) return undefined;

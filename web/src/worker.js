@@ -1,4 +1,4 @@
-// Inspects inputs in parallel to the page, which stays responsive. A message is { id, call, given }, a reply { id, answer }.
+// Inspects inputs in parallel to the page, which stays responsive. A message is { id, call, given }, a reply { id, result }.
 import { hasMemory64, load } from '../../bindings/js/src/load.js';
 import { bytesOfText, hexOf, TextError } from './bytes.js';
 import { Inspection } from './inspection.js';
@@ -54,7 +54,7 @@ const calls = {
         return list;
     },
 
-    /** All of an output, of which the report has the begin. */
+    /** The whole of an output. The report has only its beginning. */
     whole({ name }) {
         const { diagnostic, canonical } = inspection;
         return name === 'diagnostic' ? { text: diagnostic } : { text: hexOf(canonical), bytes: canonical };
@@ -63,7 +63,7 @@ const calls = {
 
 onmessage = async ({ data: { id, call, given } }) => {
     try {
-        postMessage({ id, answer: await calls[call](given) });
+        postMessage({ id, result: await calls[call](given) });
     } catch (error) {
         postMessage({ id, problem: error instanceof TextError ? error.message : `The page failed: ${error.message}` });
     }

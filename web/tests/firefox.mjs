@@ -52,11 +52,11 @@ export class Firefox {
             if (this.left.length < end) return;
             const message = JSON.parse(this.left.subarray(colon + 1, end).toString());
             this.left = this.left.subarray(end);
-            if (Array.isArray(message)) this.answer(message);
+            if (Array.isArray(message)) this.settle(message);
         }
     }
 
-    answer([, id, error, result]) {
+    settle([, id, error, result]) {
         const waiting = this.waiting.get(id);
         if (!waiting) return;
         this.waiting.delete(id);

@@ -87,19 +87,19 @@ test('1 MB of hex is inspected while the page responds within 200 ms', async () 
     assert.ok(worst <= 200, `the page did not respond for ${worst} ms`);
 });
 
-/** How light the page's background is, 0 to 1, and the elements whose text stands out less than WCAG 2 asks for: 4.5. */
+/** How light the page's background is, 0 to 1, and the elements whose contrast is less than WCAG 2 requires: 4.5. */
 const colors = () => browser.evaluate(() => {
     document.getElementById('settings').open = true;
     const channels = color => color.match(/[\d.]+/g).map(Number);
     const light = color => channels(color).slice(0, 3).map(it => it / 255)
         .map(it => (it <= 0.04045 ? it / 12.92 : ((it + 0.055) / 1.055) ** 2.4))
         .reduce((sum, it, i) => sum + it * [0.2126, 0.7152, 0.0722][i], 0);
-    const behind = element => {
+    const background = element => {
         const color = getComputedStyle(element).backgroundColor;
-        return channels(color)[3] === 0 && element.parentElement ? behind(element.parentElement) : color;
+        return channels(color)[3] === 0 && element.parentElement ? background(element.parentElement) : color;
     };
     const contrast = element => {
-        const [low, high] = [light(getComputedStyle(element).color), light(behind(element))].sort((a, b) => a - b);
+        const [low, high] = [light(getComputedStyle(element).color), light(background(element))].sort((a, b) => a - b);
         return (high + 0.05) / (low + 0.05);
     };
     const names = 'h1, h2, p, a, label, legend, textarea, select, button, td, th, caption, mark, .note, .role, strong, pre, code, footer';

@@ -93,7 +93,7 @@ class StrictCheck {
         return used;
     }
 
-    /** Checks bytes all of which must belong to the item. */
+    /** Checks bytes that must all belong to the item. */
     feedAll(bytes) {
         if (this.feed(bytes) === bytes.length) return;
         const { consumed } = this;
@@ -128,7 +128,7 @@ class StrictCheck {
         return this.#handle;
     }
 
-    /** What follows from a status. An error stays until the next item. */
+    /** Handles a status. After an error, each call throws it again until the next item. */
     #settle(status) {
         if (status === MORE) return;
         if (status === OK) this.isComplete = true;

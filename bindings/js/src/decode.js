@@ -25,7 +25,7 @@ export function decode(library, data, options) {
 
 // struct naltvigo_item in words of 32 bits: number, offset, content, end, kind, entries.
 const ITEM = { size: 10, number: 0, content: 4, kind: 8 };
-const FIRST = 100; // as many as there is space for at first; a larger table is kept for the next call
+const FIRST = 100; // the entries of the first table; a larger table is reused in the next call
 
 /** How many items there are in canonical bytes, which then are in the instance's table; -1 if they are refused. */
 function indexOf({ instance, block, length }, { order, keys, depth, maxBytes }) {
@@ -115,7 +115,7 @@ class Reader {
         throw new DecodeError(this.#path() + keyStep(Object.keys(object).length + 1), problem);
     }
 
-    /** As JSON.parse does it: whatever the name is, the property is the object's own. */
+    /** As JSON.parse does: the property is an own property of the object, also if its name is `__proto__`. */
     #setProperty(object, name, value) {
         if (value === undefined) {
             const problem = 'the value is undefined, and encode leaves out such a property; decode the map as a Map';

@@ -121,7 +121,7 @@ function simpleOf({ number }, output, open) {
     return output.head(7, number);
 }
 
-// Keys and values are read at once, so that they stay as many as the head says whatever a getter does later.
+// All keys and values are read first. So their number is that in the head, even if a getter changes the map later.
 // A property that is undefined is left out, as JSON.stringify leaves it out; a Map has each of its pairs.
 function mapOf(map, output) {
     const members = [], take = (value, key) => members.push(key, value);
@@ -165,7 +165,7 @@ const comesBefore = (a, b) => (a.length === b.length ? a < b : a.length < b.leng
 
 const mapSize = Object.getOwnPropertyDescriptor(Map.prototype, 'size').get;
 
-/** Whether this is a Map, of any realm: a frame, or a test's sandbox, has a Map of its own. A Proxy of one is none. */
+/** Whether this is a Map, of any realm: a frame, or a test's sandbox, has its own class Map. A Proxy of a Map is not a Map. */
 function isMap(item) {
     try {
         mapSize.call(item);

@@ -1,7 +1,7 @@
 // An instance of the module: its memory, the blocks of it that calls use, and what calls write there.
 //
-// A pointer, a size and a 64-bit number are a BigInt where they are passed, with 32-bit memory too. The views of the
-// memory end when it grows, so each is read again after whatever may make it grow.
+// A pointer, a size and a 64-bit number are passed as a BigInt, also with 32-bit memory. When the memory grows, its views
+// become invalid. So each view is read again after a call that may make the memory grow.
 import { outOfMemory, Refused } from './refused.js';
 import { NO_MEMORY, OK, REFUSED, TOO_SMALL } from './numbers.js';
 
@@ -88,13 +88,13 @@ export class Instance {
     #words;
     #putHead;
 
-    /** @param before an instance that trapped, if this one goes on with its memory */
+    /** @param before an instance that trapped, if this one continues with its memory */
     constructor(instance, before) {
         this.exports = instance.exports;
         this.#putHead = instance.exports.naltvigo_put_head_raw;
         /** False once a call did not return: its stack and its blocks are then as the trap left them. */
         this.isUsable = true;
-        /** The instance that then goes on with the memory, if there is one. */
+        /** The instance that then continues with the memory, if there is one. */
         this.heir = undefined;
         if (before) this.#inherit(before);
         this.#refresh();
@@ -192,8 +192,8 @@ export class Instance {
     }
 
     /**
-     * The error of a status that is not OK. Of a refused item `input` has the bytes, `{ pointer, length }`, as long as they
-     * are in the memory.
+     * The error of a status that is not OK. If an item is refused and its bytes are still in the memory, `input` is
+     * `{ pointer, length }` of these bytes.
      */
     error(status, given, input, where) {
         if (status !== REFUSED) return this.failure(status);
@@ -234,8 +234,8 @@ export class Library {
     }
 
     /**
-     * The instance that goes on with the memory of one that trapped, for the checkers there. Only the one whose call trapped is
-     * lost. Other calls begin with a new memory.
+     * The instance that continues with the memory of one that trapped, for the checkers in this memory. Only the checker whose
+     * call trapped is lost. Other calls begin with a new memory.
      */
     heirOf(instance) {
         return instance.heir ??= new Instance(new WebAssembly.Instance(this.#module, {}), instance);

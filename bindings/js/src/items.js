@@ -1,4 +1,4 @@
-// The items of a sequence (RFC 8742), whose bytes are there, or come in chunks.
+// The items of a sequence (RFC 8742), whose bytes are in one buffer, or arrive in chunks.
 import { iterableOf } from './chunks.js';
 import { GrowingBytes } from './growing.js';
 import { bytesOf } from './input.js';
@@ -92,7 +92,7 @@ async function* itemsOf(sequence, chunks) {
     if (open) yield* sequence.itemsIn(open.bytes(), true);
 }
 
-/** An item that comes in several chunks. A machine finds its end, so its bytes are judged once, when they are there. */
+/** An item that arrives in several chunks. A machine finds its end, so its bytes are checked once, when all have arrived. */
 class OpenItem {
     #machine;
     #most;

@@ -27,15 +27,15 @@ export interface ByteSink {
     };
 }
 
-/** What each call takes besides its input. An option that does not concern a call is checked, and not used. */
+/** The options of each call. A call checks that all options are in range, even those that it does not use. */
 export interface Options {
     /** How deep arrays, maps and tags may nest: 0 to 1024, and 64 by default. */
     depth?: number;
     /** How many bytes an item and its canonical bytes may have: 0 to 2 ** 62, and 2 ** 20 by default. */
     maxBytes?: number | bigint;
-    /** The order of the keys of maps: lexicographic by default, or the shorter one first (RFC 8949, section 4.2.3). */
+    /** The order of the keys of maps: bytewise by default, or the shorter key first (RFC 8949, section 4.2.3). */
     order?: 'bytewise' | 'length';
-    /** The items that may be keys of maps: any by default, or integers and texts alone. */
+    /** The items that may be keys of maps: any by default, or only integers and texts. */
     keys?: 'any' | 'basic';
 }
 
@@ -45,11 +45,11 @@ export interface ReadingOptions extends Options {
 }
 
 export interface DecodingOptions extends ReadingOptions {
-    /** What maps become: Maps by default, or plain objects, whose keys are texts. */
+    /** What `decode` makes of a map: a Map by default, or a plain object, if its keys are texts. */
     maps?: 'map' | 'object';
 }
 
-/** What `decode` returns, and the most exact type of what `encode` takes. */
+/** What `decode` returns. `encode` accepts it, and more types. */
 export type Value =
     | number | bigint | string | boolean | null | undefined | Uint8Array | Value[] | Map<Value, Value> | Tag | Simple;
 
@@ -59,10 +59,9 @@ export type ObjectValue =
     | Tag | Simple;
 
 /**
- * A Map that cannot be changed: `set`, `delete` and `clear` throw a TypeError. `decode` makes one of a map of more than
- * 255 pairs if it has a key that engines hash by its value alone: an integer, or a text that begins with a digit. Its
- * look-ups are by bisection, so that keys which a stranger has chosen cost no more than others. `new Map(sorted)` is an
- * ordinary Map.
+ * A Map that cannot be changed: `set`, `delete` and `clear` throw a TypeError. `decode` returns one for a map of more than
+ * 255 pairs if it has a key that engines may hash without a secret: an integer, or a text that begins with a digit. It finds
+ * keys by binary search, so an attacker who chooses the keys cannot make it slow. `new Map(sorted)` is an ordinary Map.
  */
 export class SortedMap<K = Value, V = Value> extends Map<K, V> {
     private constructor();
@@ -74,7 +73,7 @@ export class SortedMap<K = Value, V = Value> extends Map<K, V> {
 /** A tag's number, 0 to 2 ** 64 - 1, and its content. */
 export class Tag {
     constructor(number: number | bigint, content: unknown);
-    /** A number where that is a safe integer, and else a bigint. */
+    /** A number if it is a safe integer, else a bigint. */
     number: number | bigint;
     content: any;
 }
@@ -92,7 +91,7 @@ export class Refused extends Error {
     readonly reason: number;
     /** The name of the reason, as 'Float'. */
     readonly reasonName: string;
-    /** The offset of what is wrong, in bytes from the first one of the item. */
+    /** The offset of the fault, in bytes from the first byte of the item. */
     readonly offset: number;
     /** How many bytes of the item were read. */
     readonly consumed: number;
@@ -100,7 +99,7 @@ export class Refused extends Error {
     readonly sentence: string;
     /** What to do about it. */
     readonly advice: string;
-    /** The path to what is refused, as `$[1]."a"`; not of `events` and of checkers, whose bytes are not kept. */
+    /** The path to the fault, such as `$[1]."a"`. Undefined for `events` and for checkers, which do not store the bytes. */
     readonly path?: string;
     /** Of `same`: the input that is refused. */
     readonly side?: 'left' | 'right';
@@ -111,9 +110,9 @@ export class Refused extends Error {
 }
 
 /**
- * Checks an item whose bytes come in parts. After each part the result is that of `checkCanonical` for all bytes so far,
- * however they are cut, so a wrong byte is refused when it comes. Of the item it keeps only the last key of each open map,
- * and all of a key that is not complete.
+ * Checks an item whose bytes arrive in parts. After each part the result is that of `checkCanonical` for all bytes of the item
+ * so far, except that `Truncated` is not thrown before `end`. It does not matter where the item is cut into parts. So a wrong
+ * byte is refused when it arrives. A checker stores only the last key of each open map, and all of a key that is not complete.
  *
  * It uses memory of the module from the first part until the item is complete or refused, until `free`, or until it is
  * collected as garbage.
@@ -126,12 +125,12 @@ export interface Checker {
     /**
      * Checks the next part. Returns how many of its bytes belong to the item: all of them unless the item ends before the
      * part does, and 0 if the item was complete before. Throws `Refused` at a wrong byte, and again at each later call.
-     * Throws a `RangeError` if the engine gives no more memory; if it was for a key, again until `restart`.
+     * Throws a `RangeError` if the engine has no more memory. If the memory was for a key, each call throws it until `restart`.
      */
     feed(part: Bytes): number;
-    /** Says that no byte follows. Throws `Refused` (1 Truncated, at `consumed`) if the item is not complete. */
+    /** For the end of the input. Throws `Refused` (1 Truncated, at `consumed`) if the item is not complete. */
     end(): void;
-    /** Goes on with another item, whatever became of the one before. */
+    /** Begins another item. The item before it may be complete, refused or not complete. */
     restart(): void;
     /** Releases the memory of an item that is not complete. Then `feed` and `end` throw an `Error` until `restart`. */
     free(): void;
@@ -159,87 +158,87 @@ export class DecodeError extends TypeError {
 /**
  * An event of an item.
  *
- * The kind is that of an item's head; or 'chunk', the head of a chunk of a string of indefinite length; 'piece', some
- * bytes of a string; 'break', the end of what has indefinite length.
+ * An event is the head of an item, and its kind is the kind of the item; or 'chunk', the head of a chunk of a string of
+ * indefinite length; or 'piece', some bytes of a string; or 'break', the end of an item of indefinite length.
  */
 export interface Event {
     kind: 'unsigned' | 'negative' | 'bytes' | 'text' | 'array' | 'map' | 'tag' | 'simple' | 'chunk' | 'piece' | 'break';
-    /** The offset of its first byte, from the item's first one. */
+    /** The offset of its first byte, from the first byte of the item. */
     offset: number;
     /**
-     * The argument: the number (a negative one is -1 less it), the tag, the simple value, or how many bytes, members or
-     * pairs there are. A bigint if it is not a safe integer; undefined for an indefinite length and a break.
+     * The argument: the number (n for the integer -1 - n), the number of a tag or a simple value, or the number of bytes,
+     * members or pairs. A bigint if it is not a safe integer; undefined for an indefinite length and a break.
      */
     number: number | bigint | undefined;
     /** How many bytes the argument has after the first one: 0, 1, 2, 4 or 8; undefined as above. */
     width: number | undefined;
-    /** The bytes of a piece, as a view of what was given. */
+    /** The bytes of a piece, as a view of the input. */
     data?: Uint8Array;
 }
 
 /**
  * The calls. Each of them throws a `RangeError` or `TypeError` for options that do not exist or are out of range, a
- * `TypeError` for an input that is not a buffer, and a `RangeError` if the engine gives no more memory.
+ * `TypeError` for an input that is not a buffer, and a `RangeError` if the engine has no more memory.
  */
 export interface Naltvigo {
     /**
      * The canonical bytes of a value. A property that is undefined is left out. Throws `EncodeError` for a value that
-     * cannot be encoded, and `Refused` for equal keys and beyond the limits.
+     * cannot be encoded, and `Refused` for equal keys or if a limit is exceeded.
      */
     encode(this: void, value: unknown, options?: Options): Uint8Array;
-    /** The value of the one valid item that the input is; else throws `Refused`. The pairs of a Map are in canonical order. */
+    /** The value of an input that is one valid item; else throws `Refused`. The pairs of a Map are in canonical order. */
     decode(this: void, data: Bytes, options: DecodingOptions & { maps: 'object' }): ObjectValue;
     decode(this: void, data: Bytes, options?: ReadingOptions & { maps?: 'map' }): Value;
     decode(this: void, data: Bytes, options?: DecodingOptions): Value | ObjectValue;
-    /** The canonical bytes of the one valid item that the input is, in any encoding; else throws `Refused`. */
+    /** The canonical bytes of an input that is one valid item, in any encoding; else throws `Refused`. */
     canonicalise(this: void, data: Bytes, options?: Options): Uint8Array;
     /** Returns if the input is one valid item, in any encoding; else throws `Refused`. */
     check(this: void, data: Bytes, options?: Options): void;
     /** Returns if the input is one valid item in its canonical bytes; else throws `Refused`. */
     checkCanonical(this: void, data: Bytes, options?: Options): void;
-    /** Makes a checker, for an item of which no byte has come. */
+    /** Makes a checker. No byte of its item has arrived yet. */
     readonly Checker: new (options?: Options) => Checker;
     /**
      * The number of bytes in these chunks, if they are one valid item in its canonical bytes. Rejects with `Refused` as soon
-     * as a wrong byte comes. The bytes are not kept.
+     * as a wrong byte arrives. The bytes are not stored.
      */
     checkStream(
         this: void, chunks: AsyncIterable<Bytes> | Iterable<Bytes> | ByteStream, options?: Options,
     ): Promise<number>;
-    /** Whether two valid items have the same value; throws `Refused` for the left one first. */
+    /** Whether two valid items have the same value. Throws `Refused` if one is not valid; the left one is checked first. */
     same(this: void, left: Bytes, right: Bytes, options?: Options): boolean;
-    /** The diagnostic text (RFC 8949, section 8) of the one valid item that the input is, its pairs in their order. */
+    /** The diagnostic text (RFC 8949, section 8) of an input that is one valid item. Pairs keep their order. */
     diagnostic(this: void, data: Bytes, options?: Options): string;
-    /** The items of a sequence (RFC 8742), as views of the input. Throws `Refused` after the last one that is valid. */
+    /** The items of a sequence (RFC 8742), as views of the input. Throws `Refused` after the last valid item. */
     items(this: void, data: Bytes, options?: ReadingOptions): Generator<Uint8Array, void, undefined>;
     /**
-     * The items of a sequence whose bytes come in chunks, each as soon as it is complete. An item that is whole in a
-     * chunk is a view of it. Throws `Refused` after the last one that is valid.
+     * The items of a sequence whose bytes arrive in chunks, each as soon as it is complete. If one chunk has all bytes of an
+     * item, the item is a view of the chunk. Throws `Refused` after the last valid item.
      */
     readItems(
         this: void, chunks: AsyncIterable<Bytes> | Iterable<Bytes> | ByteStream, options?: ReadingOptions,
     ): AsyncGenerator<Uint8Array, void, undefined>;
     /**
-     * The events of the one item whose bytes come in these chunks. Only its form is judged: neither UTF-8, nor repeated
-     * keys. Throws `Refused` after the events before what is wrong.
+     * The events of the one item whose bytes arrive in these chunks. It checks only that the item is well-formed, and not
+     * UTF-8 or repeated keys. Throws `Refused` after the events before the fault.
      */
     events(this: void, chunks: Bytes | Iterable<Bytes>, options?: Options): Generator<Event, void, undefined>;
-    /** Gives back the memory of the module, which else grows to what the largest call needs. The next call takes new memory. */
+    /** Releases the memory of the module, which is as large as the largest call needed. The next call allocates it again. */
     freeMemory(this: void): void;
     /** The version of the library, as '2.0.0'. */
     version(this: void): string;
 }
 
-/** Whether this engine takes naltvigo64.wasm; naltvigo32.wasm is for the others. */
+/** Whether this engine can run naltvigo64.wasm. naltvigo32.wasm is for other engines. */
 export function hasMemory64(): boolean;
 
 /**
- * The calls, over naltvigo64.wasm or naltvigo32.wasm: its bytes, a WebAssembly.Module, a Response, or a promise of one.
- * A Response without success is an Error.
+ * The calls of naltvigo64.wasm or naltvigo32.wasm. `source` is its bytes, a WebAssembly.Module, a Response, or a promise of
+ * one of them. Throws an Error if the status of the Response is not a success.
  */
 export function load(source: ModuleSource | PromiseLike<ModuleSource>): Promise<Naltvigo>;
 
-/** The same at once, where nothing may be awaited; a browser's main thread compiles small modules alone so. */
+/** The same without a promise. A browser may refuse to compile large modules in this way in its main thread. */
 export function loadSync(source: Bytes | WebAssembly.Module): Naltvigo;
 
 export type ModuleSource = Bytes | WebAssembly.Module | { arrayBuffer(): Promise<ArrayBuffer> };

@@ -4,7 +4,7 @@ import { DEPTH_MAX, MORE, NO_ARGUMENT, OK } from './numbers.js';
 
 const KINDS = ['unsigned', 'negative', 'bytes', 'text', 'array', 'map', 'tag', 'simple', 'chunk', 'piece', 'break'];
 
-/** How many bytes a call of the machine takes at most: each gives an event at most, so the space for events suffices. */
+/** The most bytes that are passed to a call of the machine. Each byte makes at most one event, so the table has space for all. */
 export const PART = 4096;
 
 // Of struct naltvigo_event; of struct naltvigo_machine, five numbers of 8 bytes, two of 2, six of 1, six bytes of

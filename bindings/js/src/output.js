@@ -1,7 +1,7 @@
 // Bytes that are written one after another, the heads of items by the module.
 import { GrowingBytes } from './growing.js';
 
-// Of the bytes themselves, whatever a subclass says.
+// The length of the bytes themselves, even if a subclass has another property `length`.
 const lengthOf = Object.getOwnPropertyDescriptor(Object.getPrototypeOf(Uint8Array.prototype), 'length').get;
 const TEXT = new TextEncoder();
 const KEPT = 1 << 16;
@@ -13,7 +13,7 @@ const LONGEST_HEAD = 9;
 const SMALL = 256;
 const known = new Uint32Array(8 * SMALL);
 
-/** What is written. One output is kept for the next call; a getter of a value may call `encode` meanwhile. */
+/** The output. One output is stored for the next call. A getter of a value may call `encode` in the meantime. */
 export class Output extends GrowingBytes {
     static #spare;
 
@@ -84,7 +84,7 @@ export class Output extends GrowingBytes {
         return true;
     }
 
-    /** Writes a short text of ASCII, since a call of the encoder costs more; false if it is none. */
+    /** Writes a short text of ASCII, because a call of the encoder costs more. Returns false if the text is not ASCII. */
     #ascii(text) {
         const begin = this.length, count = text.length;
         this.head(3, count);

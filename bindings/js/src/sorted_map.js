@@ -23,7 +23,7 @@ export class SortedMap extends Map {
     #sorted;
     #others;
 
-    /** The keys are as `decode` makes them: numbers, bigints and texts of which no two are equal, or anything else. */
+    /** The keys are those that `decode` makes: numbers, bigints and texts, no two of them equal, and any other values. */
     constructor(keys, values) {
         super();
         Map.prototype.set.call(this, NO_CLONE);

@@ -3,7 +3,7 @@ import assert from 'node:assert/strict';
 import { Readable } from 'node:stream';
 import { test } from 'node:test';
 import { Checker, checkStream, encode, Refused } from 'naltvigo';
-import { answerOf, bytes, hex } from './given.mjs';
+import { resultOf, bytes, hex } from './given.mjs';
 import { byOrder, cut } from './parts.mjs';
 
 const TRUNCATED = 1;
@@ -28,19 +28,19 @@ const settled = async promise => {
     try {
         return await promise;
     } catch (error) {
-        return answerOf(() => { throw error; });
+        return resultOf(() => { throw error; });
     }
 };
 
 test('each row in chunks, by checkStream and by a WritableStream', async () => {
-    for (const { data, options, answer } of byOrder()) {
+    for (const { data, options, result } of byOrder()) {
         if (data.length > 200) continue;
         for (const size of [1, 3, 200]) {
             const name = `${hex(data)} ${size}`, parts = cut(data, size);
-            assert.deepEqual(await settled(checkStream(parts, options)), answer ?? data.length, name);
+            assert.deepEqual(await settled(checkStream(parts, options)), result ?? data.length, name);
             const checker = new Checker(options), source = sourceOf(parts);
-            assert.deepEqual(await settled(source.stream.pipeTo(checker.writable())), answer, name);
-            if (answer === undefined) assert.deepEqual([checker.complete, checker.consumed], [true, data.length], name);
+            assert.deepEqual(await settled(source.stream.pipeTo(checker.writable())), result, name);
+            if (result === undefined) assert.deepEqual([checker.complete, checker.consumed], [true, data.length], name);
         }
     }
 });

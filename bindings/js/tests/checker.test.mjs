@@ -2,7 +2,7 @@
 import assert from 'node:assert/strict';
 import { test } from 'node:test';
 import { canonicalise, checkCanonical, Checker, encode, Refused } from 'naltvigo';
-import { answerOf, bytes, hex, random } from './given.mjs';
+import { resultOf, bytes, hex, random } from './given.mjs';
 import { byOrder, cut, LARGE, mapOfLong } from './parts.mjs';
 import { ratioOf } from './times.mjs';
 
@@ -13,7 +13,7 @@ const MIB = 1 << 20;
 /** What a checker says after a part: 'more', how many bytes the item has, or a refusal as three numbers. */
 function fed(checker, part) {
     const before = checker.consumed;
-    return answerOf(() => {
+    return resultOf(() => {
         const used = checker.feed(part);
         assert.equal(checker.consumed, before + used);
         assert.ok(checker.complete || used === part.length);
@@ -21,35 +21,35 @@ function fed(checker, part) {
     });
 }
 
-/** The same of all bytes so far, by an answer of checkCanonical. */
-const asFed = (answer, length) => (answer === undefined ? length : answer[0] === TRUNCATED ? 'more' : answer[0] === TRAILING ? answer[1] : answer);
+/** The same of all bytes so far, by an result of checkCanonical. */
+const asFed = (result, length) => (result === undefined ? length : result[0] === TRUNCATED ? 'more' : result[0] === TRAILING ? result[1] : result);
 
-const ofWhole = (data, options) => asFed(answerOf(() => checkCanonical(data, options)), data.length);
+const ofWhole = (data, options) => asFed(resultOf(() => checkCanonical(data, options)), data.length);
 
 /** Feeds the parts of an item; after each, and at the end, the checker must say what it says of all bytes so far. */
-function feedParts(parts, options, answer, checker = new Checker(options)) {
+function feedParts(parts, options, result, checker = new Checker(options)) {
     const data = Buffer.concat(parts), name = `${hex(data).slice(0, 80)} in ${parts.map(it => it.length).slice(0, 20)}`;
     let length = 0;
     for (const part of parts) {
         length += part.length;
         assert.deepEqual(fed(checker, part), ofWhole(data.subarray(0, length), options), `${name} at ${length}`);
     }
-    const isCut = answer?.[0] === TRUNCATED, isRefused = answer !== undefined && answer[0] !== TRAILING;
-    const last = asFed(answer, data.length);
+    const isCut = result?.[0] === TRUNCATED, isRefused = result !== undefined && result[0] !== TRAILING;
+    const last = asFed(result, data.length);
     if (parts.length > 0) assert.deepEqual(fed(checker, new Uint8Array(0)), last, name);
     assert.equal(checker.complete, !isRefused, name);
-    assert.deepEqual(answerOf(() => checker.end()), isRefused ? answer : undefined, name);
-    assert.deepEqual(fed(checker, Uint8Array.of(0)), isCut ? answer : last, name);
-    assert.deepEqual(answerOf(() => checker.end()), isRefused ? answer : undefined, name);
-    if (isRefused) assert.equal(checker.consumed, answer[2], name);
+    assert.deepEqual(resultOf(() => checker.end()), isRefused ? result : undefined, name);
+    assert.deepEqual(fed(checker, Uint8Array.of(0)), isCut ? result : last, name);
+    assert.deepEqual(resultOf(() => checker.end()), isRefused ? result : undefined, name);
+    if (isRefused) assert.equal(checker.consumed, result[2], name);
 }
 
 test('each row of the tables, cut at every byte', () => {
     let count = 0;
-    for (const { data, options, answer } of byOrder()) {
-        feedParts([data], options, answer);
+    for (const { data, options, result } of byOrder()) {
+        feedParts([data], options, result);
         if (data.length > 300) continue;
-        for (let at = 0; at <= data.length; at++) feedParts([data.subarray(0, at), data.subarray(at)], options, answer);
+        for (let at = 0; at <= data.length; at++) feedParts([data.subarray(0, at), data.subarray(at)], options, result);
         count++;
     }
     assert.ok(count > 500, `${count} rows`);
@@ -57,7 +57,7 @@ test('each row of the tables, cut at every byte', () => {
 
 test('each row byte by byte, with parts of no bytes, and cut at random, by one checker that is restarted', () => {
     const { below } = random(21), checkers = new Map();
-    for (const { data, options, answer } of byOrder()) {
+    for (const { data, options, result } of byOrder()) {
         if (data.length > 600) continue;
         const name = JSON.stringify(options), again = checkers.get(name) ?? new Checker(options);
         checkers.set(name, again);
@@ -69,7 +69,7 @@ test('each row byte by byte, with parts of no bytes, and cut at random, by one c
             cuts.push(parts);
         }
         for (const parts of cuts) {
-            feedParts(parts, options, answer, again);
+            feedParts(parts, options, result, again);
             again.restart();
         }
     }
@@ -84,7 +84,7 @@ test('damaged items, cut at random', () => {
         const options = { maxBytes: from([5, 9, MIB]), depth: from([1, 64]), keys: from(['any', 'basic']), order: from(['bytewise', 'length']) };
         const parts = [];
         for (let at = 0; at < data.length;) parts.push(data.subarray(at, at += 1 + below(4)));
-        feedParts(parts, options, answerOf(() => checkCanonical(data, options)));
+        feedParts(parts, options, resultOf(() => checkCanonical(data, options)));
     }
 });
 
@@ -145,18 +145,18 @@ test('1,024 levels, and one more, however they are cut', () => {
             for (const part of cut(data, size)) assert.equal(checker.feed(part), part.length);
             assert.ok(checker.complete && checker.consumed === data.length);
             checker.restart();
-            assert.deepEqual(answerOf(() => cut(more, size).forEach(part => checker.feed(part))), [9, at, at + 1]);
+            assert.deepEqual(resultOf(() => cut(more, size).forEach(part => checker.feed(part))), [9, at, at + 1]);
         }
     }
 });
 
 test('keys of 1 MiB', () => {
     for (const [ends, refusal] of [[[1, 2, 3], undefined], [[1, 3, 2], [16]], [[1, 2, 2], [16]]]) {
-        const data = mapOfLong(MIB, ends), wanted = answerOf(() => checkCanonical(data, LARGE));
+        const data = mapOfLong(MIB, ends), wanted = resultOf(() => checkCanonical(data, LARGE));
         assert.deepEqual(wanted?.slice(0, 1), refusal);
         for (const size of [1400, 65536, data.length]) {
             const checker = new Checker(LARGE);
-            assert.deepEqual(answerOf(() => { for (const part of cut(data, size)) checker.feed(part); }), wanted);
+            assert.deepEqual(resultOf(() => { for (const part of cut(data, size)) checker.feed(part); }), wanted);
             assert.equal(checker.complete, refusal === undefined);
         }
     }
@@ -172,16 +172,16 @@ test('around the number of bytes that are copied at once', () => {
             const bad = Uint8Array.from(text);
             bad[at] = 0xff;
             checker.restart();
-            const wanted = answerOf(() => checkCanonical(bad));
-            assert.deepEqual([answerOf(() => checker.feed(bad)), checker.consumed], [wanted, wanted[2]]);
+            const wanted = resultOf(() => checkCanonical(bad));
+            assert.deepEqual([resultOf(() => checker.feed(bad)), checker.consumed], [wanted, wanted[2]]);
         }
         checker.restart();
         assert.equal(checker.feed(text.subarray(0, -1)), text.length - 1);
-        assert.deepEqual(answerOf(() => checker.end()), [TRUNCATED, text.length - 1, text.length - 1]);
+        assert.deepEqual(resultOf(() => checker.end()), [TRUNCATED, text.length - 1, text.length - 1]);
         // an array of which a wrong item comes after the first bytes that are copied
         const array = Uint8Array.from([0x9a, 0, 0x10, 0, 0, ...new Uint8Array(length), 0xf9]);
         checker.restart();
-        assert.deepEqual(answerOf(() => checker.feed(array)), [5, array.length - 1, array.length]);
+        assert.deepEqual(resultOf(() => checker.feed(array)), [5, array.length - 1, array.length]);
     }
 });
 

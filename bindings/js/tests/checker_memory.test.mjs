@@ -10,7 +10,7 @@ import { hasMemory64, load } from 'naltvigo/load';
 import * as calls from '../src/calls.js';
 import { checkerOf } from '../src/checker.js';
 import { Library } from '../src/instance.js';
-import { answerOf, bytes, hex } from './given.mjs';
+import { resultOf, bytes, hex } from './given.mjs';
 import { limitedMemory } from './limited_memory.mjs';
 import { cut, LARGE, mapOfLong } from './parts.mjs';
 
@@ -43,8 +43,8 @@ test('memory that is refused for a key is an error that stays until restart', as
 
 test('with more memory step by step: out of memory, until there is enough', async () => {
     const data = mapOfLong(100000, [1, 2]);
-    let refused = 0, answered = 0;
-    for (let pages = 0; answered < 4; pages++) {
+    let refused = 0, succeeded = 0;
+    for (let pages = 0; succeeded < 4; pages++) {
         assert.ok(pages < 100);
         let library;
         try {
@@ -57,14 +57,14 @@ test('with more memory step by step: out of memory, until there is enough', asyn
         try {
             for (const part of cut(data, 30000)) checker.feed(part);
             assert.ok(checker.complete);
-            answered++;
+            succeeded++;
         } catch (error) {
             assert.ok(isOutOfMemory(error), String(error));
             refused++;
         }
         assert.equal(hex(library.canonicalise(bytes('1800'))), '00');
     }
-    assert.ok(refused > 2 && answered > 0, `${refused} ${answered}`);
+    assert.ok(refused > 2 && succeeded > 0, `${refused} ${succeeded}`);
 });
 
 test('a checker gives its memory back when the item is complete or refused, and by free and restart', async () => {
@@ -116,7 +116,7 @@ test('a large part is not copied whole', async () => {
     const checker = new library.Checker();
     assert.equal(checker.feed(long.subarray(5)), 1);
     checker.restart();
-    assert.deepEqual(answerOf(() => checker.feed(long)), [2, MIB, MIB]);
+    assert.deepEqual(resultOf(() => checker.feed(long)), [2, MIB, MIB]);
 });
 
 test('an item of 100 MB takes no more memory than a small one', async () => {

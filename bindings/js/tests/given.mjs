@@ -10,7 +10,7 @@ export const bytes = hex => Uint8Array.from(hex.match(/../g) ?? [], digits => pa
 export const hex = given => Buffer.from(given).toString('hex');
 
 /** What a call returns, or its refusal as three numbers. */
-export function answerOf(call) {
+export function resultOf(call) {
     try {
         return call();
     } catch (error) {

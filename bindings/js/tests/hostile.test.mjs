@@ -7,7 +7,7 @@ import {
 } from 'naltvigo';
 import { hasMemory64, load } from 'naltvigo/load';
 import { chosenIntegers, harmlessIntegers } from './chosen_keys.mjs';
-import { answerOf, bytes, rows } from './given.mjs';
+import { resultOf, bytes, rows } from './given.mjs';
 import { limitedMemory } from './limited_memory.mjs';
 import { leastTime, millisecond, ratioOf } from './times.mjs';
 
@@ -90,14 +90,14 @@ test('600 MB are refused without a copy of them', async () => {
     long.set(bytes('5a23c34000'));
     for (const [input, refusal] of [[data, [12, 1, 1]], [long, [2, MIB, MIB]]]) {
         for (const call of ['canonicalise', 'check', 'checkCanonical', 'decode', 'diagnostic']) {
-            assert.deepEqual(answerOf(() => library[call](input)), refusal, call);
+            assert.deepEqual(resultOf(() => library[call](input)), refusal, call);
         }
-        assert.deepEqual(answerOf(() => library.decode(input, { canonical: true })), refusal);
-        assert.deepEqual(answerOf(() => library.same(input, one)), refusal);
-        assert.deepEqual(answerOf(() => library.same(one, input)), refusal);
+        assert.deepEqual(resultOf(() => library.decode(input, { canonical: true })), refusal);
+        assert.deepEqual(resultOf(() => library.same(input, one)), refusal);
+        assert.deepEqual(resultOf(() => library.same(one, input)), refusal);
     }
     assert.equal(library.items(data).next().value.length, 1);
-    assert.deepEqual(answerOf(() => [...library.items(long)]), [2, MIB, MIB]);
+    assert.deepEqual(resultOf(() => [...library.items(long)]), [2, MIB, MIB]);
     assert.equal(library.events(data).next().value.offset, 0);
 });
 
@@ -122,11 +122,11 @@ function largestArray(run) {
 test('a long string is not copied to be refused', () => {
     const long = new Uint8Array(100e6), texts = ['a'.repeat(50e6), 'é'.repeat(50e6), '😀'.repeat(20e6)];
     for (const value of [long, [1, { a: long }], ...texts]) {
-        const largest = largestArray(() => assert.deepEqual(answerOf(() => encode(value)), [2, MIB, MIB]));
+        const largest = largestArray(() => assert.deepEqual(resultOf(() => encode(value)), [2, MIB, MIB]));
         // a text needs three bytes for each of its characters within the limit
         assert.ok(largest > MIB && largest < 4 * MIB, `${largest} bytes`);
     }
-    for (const text of texts) assert.deepEqual(answerOf(() => encode(text, { maxBytes: 0 })), [2, 0, 0]);
+    for (const text of texts) assert.deepEqual(resultOf(() => encode(text, { maxBytes: 0 })), [2, 0, 0]);
 });
 
 test('under each limit, what is refused is what is refused of all bytes', async () => {
@@ -144,14 +144,14 @@ test('under each limit, what is refused is what is refused of all bytes', async 
         new Uint8Array(x.memory.buffer).set(data, Number(input));
         for (let limit = 0; limit < data.length; limit++) {
             const options = { depth, keys, maxBytes: limit }, numbers = [kinds, depth, BigInt(limit)];
-            assert.deepEqual(answerOf(() => check(data, options)), refused(x.naltvigo_check_valid_raw(input, n, ...numbers, refusal)), given);
+            assert.deepEqual(resultOf(() => check(data, options)), refused(x.naltvigo_check_valid_raw(input, n, ...numbers, refusal)), given);
             const strict = refused(x.naltvigo_check_canonical_raw(input, n, 0, ...numbers, refusal));
-            assert.deepEqual(answerOf(() => checkCanonical(data, options)), strict, given);
+            assert.deepEqual(resultOf(() => checkCanonical(data, options)), strict, given);
             const wanted = refused(x.naltvigo_canonicalise_raw(input, n, 0, ...numbers, output, 65536n, results, refusal));
-            const found = answerOf(() => canonicalise(data, options));
+            const found = resultOf(() => canonicalise(data, options));
             assert.deepEqual(found instanceof Uint8Array ? undefined : found, wanted, given);
             const text = refused(x.naltvigo_diagnostic_raw(input, n, ...numbers, output, 65536n, results, refusal));
-            const shown = answerOf(() => diagnostic(data, options));
+            const shown = resultOf(() => diagnostic(data, options));
             assert.deepEqual(typeof shown === 'string' ? undefined : shown, text, given);
             count++;
         }

@@ -26,8 +26,8 @@ const isOutOfMemory = error => error instanceof RangeError && error.message === 
 test('with more memory step by step: out of memory, until there is enough', async () => {
     const data = unsorted(20000), options = { maxBytes: 1 << 24 }, wanted = hex(shared(data, options));
     const small = bytes('bf6346756ef563416d7421ff');
-    let refused = 0, answered = 0;
-    for (let pages = 0; !answered || pages < 4; pages++) {
+    let refused = 0, succeeded = 0;
+    for (let pages = 0; !succeeded || pages < 4; pages++) {
         assert.ok(pages < 300);
         let library;
         try {
@@ -38,7 +38,7 @@ test('with more memory step by step: out of memory, until there is enough', asyn
         }
         try {
             assert.equal(hex(library.canonicalise(data, options)), wanted);
-            answered++;
+            succeeded++;
         } catch (error) {
             assert.ok(isOutOfMemory(error), String(error));
             refused++;
@@ -48,7 +48,7 @@ test('with more memory step by step: out of memory, until there is enough', asyn
         assert.equal(library.diagnostic(small), '{"Fun": true, "Amt": -2}');
         assert.equal(hex(library.encode(library.decode(small))), 'a263416d74216346756ef5');
     }
-    assert.ok(refused > 5 && answered > 0, `${refused} ${answered}`);
+    assert.ok(refused > 5 && succeeded > 0, `${refused} ${succeeded}`);
 });
 
 test('each early request for memory refused', async () => {

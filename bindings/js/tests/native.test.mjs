@@ -10,7 +10,7 @@ const KEYS = ['any', 'basic'];
 const file = process.env.VECTORS;
 
 /** The result as the file has it; `more` makes what follows the status from what a call returns. */
-function answer(call, more = () => '-', refused = () => '-') {
+function result(call, more = () => '-', refused = () => '-') {
     try {
         return `0 ${more(call())}`;
     } catch (error) {
@@ -26,19 +26,19 @@ test('each call returns what the native library returns', { skip: file ? false :
         const data = bytes(digits === '-' ? '' : digits);
         const limits = { keys: KEYS[keys], depth: Number(depth), maxBytes: Number(maxBytes) };
         const options = { ...limits, order: ORDERS[order] };
-        const front = more => answer(() => items(data, { ...options, ...more }).next().value, item => item.length, () => 0);
+        const front = more => result(() => items(data, { ...options, ...more }).next().value, item => item.length, () => 0);
         let isSame;
-        const compared = answer(() => { isSame = same(before, data, limits); }, undefined, ({ side }) => (side === 'left' ? 0 : 1));
-        const answers = [
-            answer(() => canonicalise(data, options), hex),
-            answer(() => check(data, limits)),
-            answer(() => checkCanonical(data, options)),
-            answer(() => diagnostic(data, limits), text => Buffer.from(text).toString('hex')),
+        const compared = result(() => { isSame = same(before, data, limits); }, undefined, ({ side }) => (side === 'left' ? 0 : 1));
+        const results = [
+            result(() => canonicalise(data, options), hex),
+            result(() => check(data, limits)),
+            result(() => checkCanonical(data, options)),
+            result(() => diagnostic(data, limits), text => Buffer.from(text).toString('hex')),
             // without input there are no items; the library reports that it is truncated
             ...(data.length ? [front({}), front({ canonical: true })] : wanted.slice(4, 6)),
             isSame === false ? '6 -' : compared,
         ];
-        assert.deepEqual(answers, wanted, given);
+        assert.deepEqual(results, wanted, given);
         before = data;
         count++;
     }

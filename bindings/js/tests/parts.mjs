@@ -5,9 +5,9 @@ export const LARGE = { maxBytes: 1 << 26, depth: 1024 };
 
 /** Each row of the tables with the options of both orders, and the refusal by checkCanonical, or undefined. */
 export function* byOrder() {
-    for (const { given, depth, maxBytes, keys, answers } of rows) {
+    for (const { given, depth, maxBytes, keys, results } of rows) {
         for (const [i, order] of ['bytewise', 'length'].entries()) {
-            yield { data: bytes(given), options: { depth, maxBytes, keys, order }, answer: answers[i].strict ?? undefined };
+            yield { data: bytes(given), options: { depth, maxBytes, keys, order }, result: results[i].strict ?? undefined };
         }
     }
 }

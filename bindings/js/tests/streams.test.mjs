@@ -2,7 +2,7 @@
 import assert from 'node:assert/strict';
 import { test } from 'node:test';
 import { canonicalise, check, diagnostic, events, items, Refused } from 'naltvigo';
-import { answerOf, bytes, events as tables, hex, random } from './given.mjs';
+import { resultOf, bytes, events as tables, hex, random } from './given.mjs';
 
 const NAMES = ['Truncated', 'TooLong', 'Reserved', 'NoIndefinite', 'Float', 'BadSimple', 'StrayBreak', 'BadChunk', 'TooDeep'];
 const TRUNCATED = 1;
@@ -40,12 +40,12 @@ function* cuts(data) {
 test('each row of the tables of events, however it is cut', () => {
     assert.ok(tables.accepted.length > 60 && tables.refused.length > 40 && tables.prefixes.length > 10);
     const accepted = [...tables.accepted, ...tables.not_valid].map(row => {
-        const taken = Number(/^done (\d+)$/.exec(row.answer)?.[1] ?? row.given.length / 2);
+        const taken = Number(/^done (\d+)$/.exec(row.result)?.[1] ?? row.given.length / 2);
         return [row, 2 * taken === row.given.length ? undefined : [TRAILING, taken, taken]];
     });
     const prefixes = tables.prefixes.map(row => [row, [TRUNCATED, row.given.length / 2, row.given.length / 2]]);
     const refused = tables.refused.map(row => {
-        const [name, offset, consumed] = row.answer.split(' ');
+        const [name, offset, consumed] = row.result.split(' ');
         return [row, [1 + NAMES.indexOf(name), Number(offset), Number(consumed)]];
     });
     for (const [{ given, events: wanted, depth, maxBytes }, refusal] of [...accepted, ...prefixes, ...refused]) {
@@ -59,7 +59,7 @@ test('each text of the tables', () => {
     for (const { given, text } of tables.accepted) {
         // some comments mention a missing length, which values do not have, or give the text in other words; and some
         // rows are well-formed alone
-        if (/_|\.\.|U\+/.test(text) || answerOf(() => check(bytes(given), { depth: 256 }))) continue;
+        if (/_|\.\.|U\+/.test(text) || resultOf(() => check(bytes(given), { depth: 256 }))) continue;
         assert.equal(diagnostic(bytes(given), { depth: 256 }), text, given);
         count++;
     }
@@ -77,7 +77,7 @@ test('refused and trailing bytes come after the events before them', () => {
         [[bytes('4361')], '0 bytes 3 0 1 piece 1 0', [1, 2, 2]],
     ]) assert.deepEqual(reported(chunks, Buffer.concat(chunks), {}), [wanted, refusal]);
     for (const chunks of [[], [bytes('')], bytes(''), [bytes('00')]]) {
-        assert.deepEqual(answerOf(() => [...events(chunks, { maxBytes: 0 })]), answerOf(() => check(bytes(''), { maxBytes: 0 })));
+        assert.deepEqual(resultOf(() => [...events(chunks, { maxBytes: 0 })]), resultOf(() => check(bytes(''), { maxBytes: 0 })));
     }
 });
 
@@ -119,7 +119,7 @@ test('an item of 1,024 levels, however it is cut, and one level more', () => {
             assert.deepEqual(found.map(({ offset }) => offset), [...data.keys()]);
         }
         const more = bytes(`${opener.repeat(1025)}00${end.repeat(1025)}`), offset = 1024 * opener.length / 2;
-        assert.deepEqual(answerOf(() => [...events(more, { depth: 1024 })]), [9, offset, offset + 1]);
+        assert.deepEqual(resultOf(() => [...events(more, { depth: 1024 })]), [9, offset, offset + 1]);
     }
 });
 
@@ -138,10 +138,10 @@ test('items refused after those before them', () => {
 
 test('canonical items', () => {
     assert.deepEqual([...items(bytes('006161'), { canonical: true })].map(hex), ['00', '6161']);
-    assert.deepEqual(answerOf(() => [...items(bytes('1800'), { canonical: true })]), [14, 0, 2]);
+    assert.deepEqual(resultOf(() => [...items(bytes('1800'), { canonical: true })]), [14, 0, 2]);
     const keys = bytes('a22000186400');
     assert.deepEqual([...items(keys, { canonical: true, order: 'length' })].map(hex), ['a22000186400']);
-    assert.equal(answerOf(() => [...items(keys, { canonical: true })])[0], 16);
+    assert.equal(resultOf(() => [...items(keys, { canonical: true })])[0], 16);
 });
 
 test('a long sequence, its items views of the input, among other calls', () => {

@@ -19,17 +19,17 @@ def event_rows(name):
     text = one("tables.rt").read_text(encoding="utf-8")
     body = re.search(rf'static {name}: &str = r#"\n(.*?)\n"#;', text, re.S)[1]
     for line in body.splitlines():
-        given, limits, events, answer, comment = [column.strip() for column in line.split("|", 4)]
+        given, limits, events, result, comment = [column.strip() for column in line.split("|", 4)]
         depth, most = limits.split() or (256, 1 << 20)
-        yield dict(given=given, depth=int(depth), maxBytes=int(most), events=" ".join(events.split()), answer=answer, text=comment)
+        yield dict(given=given, depth=int(depth), maxBytes=int(most), events=" ".join(events.split()), result=result, text=comment)
 
 
 tables = sorted(one("conformance_table.rt").parent.glob("*_table.rt"))
 rows = [
     dict(given=given, depth=limits.depth, maxBytes=limits.most, keys=limits.keys,
-         answers=[dict(canonical=it[0], refusal=it[1], strict=it[2]) for it in answers])
-    for given, limits, answers in rows_of(tables)
+         results=[dict(canonical=it[0], refusal=it[1], strict=it[2]) for it in results])
+    for given, limits, results in rows_of(tables)
 ]
-pairs = [dict(left=left, right=right, answer=answer[0], refusal=answer[1]) for left, right, answer in pairs_of(tables)]
+pairs = [dict(left=left, right=right, result=result[0], refusal=result[1]) for left, right, result in pairs_of(tables)]
 events = {name.lower(): list(event_rows(name)) for name in ("ACCEPTED", "NOT_VALID", "PREFIXES", "REFUSED")}
 json.dump(dict(rows=rows, pairs=pairs, events=events), sys.stdout)

@@ -12,7 +12,7 @@ import { events } from '../src/events.js';
 import { Library, wordsAt } from '../src/instance.js';
 import { items } from '../src/items.js';
 import { Output } from '../src/output.js';
-import { answerOf, bytes, hex } from './given.mjs';
+import { resultOf, bytes, hex } from './given.mjs';
 import { limitedMemory } from './limited_memory.mjs';
 
 const wasm = readFileSync(new URL('../wasm/naltvigo32.wasm', import.meta.url));
@@ -57,8 +57,8 @@ test('no pointer is null, in the first call and with no bytes', async () => {
             for (const options of [undefined, { maxBytes: 0 }]) {
                 const { library, called: own } = await watched();
                 if (name === 'version') call(library);
-                else if (name === 'canonicalItems' || name === 'strictly') answerOf(() => call(library, data));
-                else answerOf(() => call(library, data, options));
+                else if (name === 'canonicalItems' || name === 'strictly') resultOf(() => call(library, data));
+                else resultOf(() => call(library, data, options));
                 for (const it of own) called.add(it);
             }
         }

@@ -3,7 +3,7 @@ import assert from 'node:assert/strict';
 import { test } from 'node:test';
 import { inspect } from 'node:util';
 import { canonicalise, check, decode, encode, EncodeError, events, items, Refused, SortedMap } from 'naltvigo';
-import { answerOf, bytes, hex, random } from './given.mjs';
+import { resultOf, bytes, hex, random } from './given.mjs';
 import { encoded } from './reference.mjs';
 
 const around = (...numbers) => numbers.flatMap(number => [number - 1, number, number + 1]);
@@ -124,10 +124,10 @@ test('items across the bytes that are copied at once, 65,536', () => {
         const text = encode('é'.repeat(length / 2 | 0)), bad = Buffer.from(text);
         assert.deepEqual([...items(Buffer.concat([short, text, text]))].map(it => it.length), [2, text.length, text.length]);
         bad[bad.length - 1] = 0x41;
-        assert.deepEqual(answerOf(() => [...items(Buffer.concat([short, text, bad, short]))]), answerOf(() => canonicalise(bad)));
+        assert.deepEqual(resultOf(() => [...items(Buffer.concat([short, text, bad, short]))]), resultOf(() => canonicalise(bad)));
         // cut off within the last item
         const cutOff = Buffer.concat([short, string]).subarray(0, 1 + string.length);
-        assert.deepEqual(answerOf(() => [...items(cutOff)]), [1, string.length - 1, string.length - 1]);
+        assert.deepEqual(resultOf(() => [...items(cutOff)]), [1, string.length - 1, string.length - 1]);
     }
     const many = new Uint8Array(200001).fill(0x17);
     let count = 0;

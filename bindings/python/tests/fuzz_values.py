@@ -74,9 +74,9 @@ def judge_sequence(data):
         return None if str(ends) == str(error) else f"item_ends: {ends}, items: {error}"
     if [end for _, end in found] != list(ends):
         return "item_ends and items differ"
-    answer = naltvigo.canonicalise_items(data, max_bytes=1 << 30)
+    result = naltvigo.canonicalise_items(data, max_bytes=1 << 30)
     canonical = [naltvigo.canonicalise(item, max_bytes=1 << 30) for item in naltvigo.items(data)]
-    return None if answer[0] == b"".join(canonical) else "canonicalise_items is not canonicalise of each"
+    return None if result[0] == b"".join(canonical) else "canonicalise_items is not canonicalise of each"
 
 
 def judge_parts(data, options, rng):

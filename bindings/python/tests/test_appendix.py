@@ -3,7 +3,7 @@
 import unittest
 
 from naltvigo import FrozenDict, Simple, Tag, dumps, loads, undefined
-from test_naltvigo import ORDERS, TABLES, answer_of, rows_of
+from test_naltvigo import ORDERS, TABLES, result_of, rows_of
 
 UP_TO_25 = list(range(1, 26))
 
@@ -94,7 +94,7 @@ class Appendix(unittest.TestCase):
                     self.assertTrue(is_same(loads(canonical, order=order, canonical=True), value))
                     self.assertEqual(dumps(value, order=order), canonical)
             if other:
-                self.assertEqual(answer_of(loads, bytes.fromhex(given), canonical=True)[0], 15)
+                self.assertEqual(result_of(loads, bytes.fromhex(given), canonical=True)[0], 15)
 
     def test_keys(self):
         for given, value in (
@@ -111,12 +111,12 @@ class Rows(unittest.TestCase):
 
     def test_loads(self):
         collisions = 0
-        for given, (depth, most, keys), answers in rows_of(TABLES):
+        for given, (depth, most, keys), results in rows_of(TABLES):
             data, limits = bytes.fromhex(given), dict(depth=depth, max_bytes=most, keys=keys)
-            for order, (canonical, refusal, strict) in zip(ORDERS, answers):
+            for order, (canonical, refusal, strict) in zip(ORDERS, results):
                 with self.subTest(data=given, order=order):
                     try:
-                        value = answer_of(loads, data, order=order, **limits)
+                        value = result_of(loads, data, order=order, **limits)
                     except ValueError as error:
                         self.assertIn("equal in Python", str(error))
                         collisions += 1
@@ -124,16 +124,16 @@ class Rows(unittest.TestCase):
                     if refusal:
                         self.assertEqual(value, refusal)
                     else:
-                        self.assertEqual(answer_of(dumps, value, order=order, **limits), bytes.fromhex(canonical))
+                        self.assertEqual(result_of(dumps, value, order=order, **limits), bytes.fromhex(canonical))
         self.assertLess(collisions, 20)
 
     def test_loads_of_canonical_bytes(self):
-        for given, (depth, most, keys), answers in rows_of(TABLES):
+        for given, (depth, most, keys), results in rows_of(TABLES):
             data, limits = bytes.fromhex(given), dict(depth=depth, max_bytes=most, keys=keys)
-            for order, (_, _, strict) in zip(ORDERS, answers):
+            for order, (_, _, strict) in zip(ORDERS, results):
                 with self.subTest(data=given, order=order):
                     try:
-                        value = answer_of(loads, data, canonical=True, order=order, **limits)
+                        value = result_of(loads, data, canonical=True, order=order, **limits)
                     except ValueError as error:
                         self.assertIn("equal in Python", str(error))
                         continue

@@ -11,7 +11,7 @@ import unittest
 
 from items import any_encoding, encoded, head, some_value
 from naltvigo import Checker, Refused, check_canonical, check_stream
-from test_naltvigo import ORDERS, TABLES, answer_of, rows_of
+from test_naltvigo import ORDERS, TABLES, result_of, rows_of
 from times import least_time
 
 TRUNCATED, TRAILING = 1, 12
@@ -23,14 +23,14 @@ def parts_of(data, size):
 
 def word_on(data, **options):
     """What check_canonical says of the item that these bytes begin: its number of bytes, or the refusal; None if it goes on."""
-    said = answer_of(check_canonical, data, **options)
+    said = result_of(check_canonical, data, **options)
     if said is None:
         return len(data)
     return said[1] if said[0] == TRAILING else None if said[0] == TRUNCATED else said
 
 
 class Parts(unittest.TestCase):
-    """After each part the checker says what the library says of all bytes so far."""
+    """After each part the checker returns what the library returns for all bytes so far."""
 
     def feed(self, checker, data, words, ends, kind=bytes):
         """Feeds the parts that end here; words[n] is the word on the first n bytes."""
@@ -39,18 +39,18 @@ class Parts(unittest.TestCase):
         for end in ends:
             word = words[end]
             consumed = end if word is None else word if isinstance(word, int) else word[2]
-            said = answer_of(checker.feed, kind(data[begin:end]))
+            said = result_of(checker.feed, kind(data[begin:end]))
             self.assertEqual(said, word if isinstance(word, tuple) else word is not None)
             found = checker.complete, checker.consumed, checker.used
             self.assertEqual(found, (isinstance(word, int), consumed, consumed - begin))
             begin = end
             if word is not None:
                 break
-        self.assertEqual(answer_of(checker.end), (TRUNCATED, begin, begin) if word is None else word)
+        self.assertEqual(result_of(checker.end), (TRUNCATED, begin, begin) if word is None else word)
         if word is not None:
             # it stays so, and uses nothing
             for more in (b"\xff", b""):
-                self.assertEqual(answer_of(checker.feed, more), word if isinstance(word, tuple) else True)
+                self.assertEqual(result_of(checker.feed, more), word if isinstance(word, tuple) else True)
                 self.assertEqual((checker.consumed, checker.used), (consumed, 0))
 
     def check(self, data, rng, **options):
@@ -83,7 +83,7 @@ class Parts(unittest.TestCase):
         for opening, closing in ((b"\xa1\0", b""), (b"\xa1", b"\0"), (b"\x81", b""), (b"\xc1", b"")):
             for levels in (1023, 1024, 1025):
                 data, checker = opening * levels + b"\0" + closing * levels, Checker(depth=1024)
-                said = answer_of(lambda: [checker.feed(bytes([byte])) for byte in data][-1])
+                said = result_of(lambda: [checker.feed(bytes([byte])) for byte in data][-1])
                 at = len(opening) * 1024
                 self.assertEqual(said, True if levels < 1025 else (9, at, at + 1))
                 self.assertEqual(said, True if levels < 1025 else word_on(data, depth=1024))
@@ -94,7 +94,7 @@ class Parts(unittest.TestCase):
         for last, size_of_part in itertools.product("Za", (64, 4096, 1 << 22)):
             data = b"\xa2" + key + b"Z\0" + key + last.encode() + b"\0"
             checker, wrong = Checker(max_bytes=1 << 24), (16, 2 + len(key) + 1, len(data) - 1)
-            said = answer_of(lambda: [checker.feed(part) for part in parts_of(data, size_of_part)][-1])
+            said = result_of(lambda: [checker.feed(part) for part in parts_of(data, size_of_part)][-1])
             self.assertEqual(said, wrong if last == "Z" else True)
             self.assertEqual(checker.consumed, len(data) - (last == "Z"))
 
@@ -134,7 +134,7 @@ class Use(unittest.TestCase):
     def test_end_of_an_item_that_goes_on(self):
         checker = Checker()
         for n, byte in enumerate(b"\x82\x18\x64"):
-            self.assertEqual(answer_of(checker.end), (TRUNCATED, n, n))
+            self.assertEqual(result_of(checker.end), (TRUNCATED, n, n))
             checker.feed(bytes([byte]))
         self.assertTrue(checker.feed(b"\x01"))
         self.assertEqual((checker.end(), checker.end()), (4, 4))
@@ -158,10 +158,10 @@ class Use(unittest.TestCase):
             self.assertTrue(checker.feed(by_length))
             checker.restart()
             for wrong, refusal in ((b"\x81\x80", (9, 1, 2)), (bytes([0x18, 0x64] * 4), True), (b"\xa1\x40", (20, 1, 2)), (b"\x87" + bytes(7), (2, 6, 6))):
-                self.assertEqual(answer_of(checker.feed, wrong), refusal)
+                self.assertEqual(result_of(checker.feed, wrong), refusal)
                 checker.restart()
                 self.assertEqual((checker.complete, checker.consumed, checker.used), (False, 0, 0))
-        self.assertEqual(answer_of(Checker().feed, by_length), (16, 3, 5))
+        self.assertEqual(result_of(Checker().feed, by_length), (16, 3, 5))
 
     def test_refused(self):
         checker = Checker()
@@ -218,7 +218,7 @@ class Threads(unittest.TestCase):
 
         def work():
             while not done.is_set():
-                answer_of(checker.feed, big)
+                result_of(checker.feed, big)
                 try:
                     checker.restart()
                 except ValueError:
@@ -261,7 +261,7 @@ class Threads(unittest.TestCase):
         thread.start()
         try:
             for _ in range(300):
-                found.add(answer_of(Checker().feed, data))
+                found.add(result_of(Checker().feed, data))
         finally:
             done.set()
             thread.join()

@@ -25,7 +25,7 @@ EVENTS = ROOT / "crates/cbor_events_tests/src/tests/tables.rt"
 ORDERS = ("bytewise", "length")
 
 
-def answer_of(call, *words, **more):
+def result_of(call, *words, **more):
     """What a call returns, or the refusal as three numbers."""
     try:
         return call(*words, **more)
@@ -37,9 +37,9 @@ class Rows(unittest.TestCase):
     """Each row of the conformance tables, with each call that it is about."""
 
     def rows(self):
-        for given, (depth, most, keys), answers in rows_of(TABLES):
+        for given, (depth, most, keys), results in rows_of(TABLES):
             limits = dict(depth=depth, max_bytes=most, keys=keys)
-            for order, (canonical, refusal, strict) in zip(ORDERS, answers):
+            for order, (canonical, refusal, strict) in zip(ORDERS, results):
                 yield bytes.fromhex(given), limits, order, canonical, refusal, strict
 
     def test_canonicalise(self):
@@ -47,20 +47,20 @@ class Rows(unittest.TestCase):
             wanted = refusal or bytes.fromhex(canonical)
             for buffer in (data, bytearray(data), memoryview(data)):
                 with self.subTest(data=data.hex(), order=order):
-                    self.assertEqual(answer_of(naltvigo.canonicalise, buffer, order=order, **limits), wanted)
+                    self.assertEqual(result_of(naltvigo.canonicalise, buffer, order=order, **limits), wanted)
 
     def test_check_canonical(self):
         for data, limits, order, _, _, strict in self.rows():
             with self.subTest(data=data.hex(), order=order):
-                self.assertEqual(answer_of(naltvigo.check_canonical, data, order=order, **limits), strict)
+                self.assertEqual(result_of(naltvigo.check_canonical, data, order=order, **limits), strict)
 
     def test_check_and_diagnostic(self):
         for data, limits, _, canonical, refusal, _ in self.rows():
             with self.subTest(data=data.hex()):
                 # only canonicalise has the limit on canonical bytes
                 wanted = None if refusal and refusal[0] == 13 else refusal
-                self.assertEqual(answer_of(naltvigo.check, data, **limits), wanted)
-                text = answer_of(naltvigo.diagnostic, data, **limits)
+                self.assertEqual(result_of(naltvigo.check, data, **limits), wanted)
+                text = result_of(naltvigo.diagnostic, data, **limits)
                 self.assertEqual(text, wanted) if wanted else self.assertIsInstance(text, str)
                 if canonical is not None:
                     self.assertTrue(naltvigo.same(data, bytes.fromhex(canonical), **limits))
@@ -73,17 +73,17 @@ class Rows(unittest.TestCase):
                     self.assertEqual(list(naltvigo.items(data + data, **limits)), [data, data])
 
     def test_pairs(self):
-        for left, right, (answer, refusal) in pairs_of(TABLES):
+        for left, right, (result, refusal) in pairs_of(TABLES):
             with self.subTest(left=left, right=right):
                 words = bytes.fromhex(left), bytes.fromhex(right)
                 if refusal is None:
-                    self.assertIs(naltvigo.same(*words, depth=256), answer == "same")
+                    self.assertIs(naltvigo.same(*words, depth=256), result == "same")
                     continue
                 with self.assertRaises(Refused) as raised:
                     naltvigo.same(*words, depth=256)
                 error = raised.exception
-                self.assertEqual((error.side, error.reason, error.offset, error.consumed), (answer, *refusal))
-                self.assertTrue(str(error).startswith(f"{answer} refused "))
+                self.assertEqual((error.side, error.reason, error.offset, error.consumed), (result, *refusal))
+                self.assertTrue(str(error).startswith(f"{result} refused "))
 
 
 class Events(unittest.TestCase):
@@ -122,7 +122,7 @@ class Events(unittest.TestCase):
         for text, given, _ in self.rows():
             # some comments mention a missing length, which values do not have, or give the text in other words; and some
             # rows are well-formed alone
-            if not re.search(r"_|\.\.|U\+", text) and answer_of(naltvigo.check, bytes.fromhex(given)) is None:
+            if not re.search(r"_|\.\.|U\+", text) and result_of(naltvigo.check, bytes.fromhex(given)) is None:
                 with self.subTest(given=given):
                     self.assertEqual(naltvigo.diagnostic(bytes.fromhex(given)), text)
 
@@ -143,8 +143,8 @@ class Events(unittest.TestCase):
             self.assertEqual((error.reason, error.offset, error.consumed), refusal)
 
     def test_limits(self):
-        self.assertEqual(answer_of(lambda: list(naltvigo.events(b"\x82\x01", max_bytes=2))), (2, 2, 2))
-        self.assertEqual(answer_of(lambda: list(naltvigo.events(b"\x81\x80", depth=1))), (9, 1, 2))
+        self.assertEqual(result_of(lambda: list(naltvigo.events(b"\x82\x01", max_bytes=2))), (2, 2, 2))
+        self.assertEqual(result_of(lambda: list(naltvigo.events(b"\x81\x80", depth=1))), (9, 1, 2))
 
     def test_a_chunk_that_changes(self):
         # an event's data stay, and a bytearray may change after its event
@@ -167,10 +167,10 @@ class Sequences(unittest.TestCase):
 
     def test_canonical_ones(self):
         self.assertEqual(list(naltvigo.items(b"\x00\x61a", canonical=True)), [b"\x00", b"\x61a"])
-        self.assertEqual(answer_of(lambda: list(naltvigo.items(b"\x18\x00", canonical=True))), (14, 0, 2))
+        self.assertEqual(result_of(lambda: list(naltvigo.items(b"\x18\x00", canonical=True))), (14, 0, 2))
         keys = b"\xa2\x20\x00\x18\x64\x00"
         self.assertEqual(list(naltvigo.items(keys, canonical=True, order="length")), [keys])
-        self.assertEqual(answer_of(lambda: list(naltvigo.items(keys, canonical=True)))[0], 16)
+        self.assertEqual(result_of(lambda: list(naltvigo.items(keys, canonical=True)))[0], 16)
 
     def test_none(self):
         self.assertEqual(list(naltvigo.items(b"")), [])
@@ -204,17 +204,17 @@ class Words(unittest.TestCase):
 
     def test_kinds_of_keys(self):
         data = b"\xa1\x80\x00"
-        answers = dict(canonicalise=data, check=None, check_canonical=None, diagnostic="{[]: 0}")
-        for name, wanted in answers.items():
+        results = dict(canonicalise=data, check=None, check_canonical=None, diagnostic="{[]: 0}")
+        for name, wanted in results.items():
             with self.subTest(name=name):
                 call = getattr(naltvigo, name)
-                self.assertEqual(answer_of(call, data, keys="basic"), (20, 1, 2))
+                self.assertEqual(result_of(call, data, keys="basic"), (20, 1, 2))
                 self.assertEqual(call(data, keys="any"), wanted)
                 self.assertEqual(call(data), wanted)
         for canonical in (False, True):
             found = naltvigo.items(b"\x00\xa1\x80\x00", keys="basic", canonical=canonical)
             self.assertEqual(next(found), b"\x00")
-            self.assertEqual(answer_of(next, found), (20, 1, 2))
+            self.assertEqual(result_of(next, found), (20, 1, 2))
         with self.assertRaises(Refused) as raised:
             naltvigo.same(b"\x00", b"\xa1\x80\x00", keys="basic")
         self.assertEqual((raised.exception.side, raised.exception.name), ("right", "KeyKind"))
@@ -237,26 +237,26 @@ class Words(unittest.TestCase):
         self.assertEqual([it.kind for it in naltvigo.events(array.array("B", b"\x18\x00"))], ["unsigned"])
 
     def test_defaults(self):
-        self.assertEqual(answer_of(naltvigo.check, b"\x81" * 64 + b"\x80"), (9, 64, 65))
-        self.assertIsNone(answer_of(naltvigo.check, b"\x81" * 63 + b"\x80"))
+        self.assertEqual(result_of(naltvigo.check, b"\x81" * 64 + b"\x80"), (9, 64, 65))
+        self.assertIsNone(result_of(naltvigo.check, b"\x81" * 63 + b"\x80"))
         text = b"\x7a\x00\x0f\xff\xfb" + b"a" * 0xFFFFB
-        self.assertIsNone(answer_of(naltvigo.check, text))
-        self.assertEqual(answer_of(naltvigo.check, b"\x81" + text), (2, 1 << 20, 1 << 20))
+        self.assertIsNone(result_of(naltvigo.check, text))
+        self.assertEqual(result_of(naltvigo.check, b"\x81" + text), (2, 1 << 20, 1 << 20))
 
 
 class Rest(unittest.TestCase):
-    def test_answers_of_all_sizes(self):
+    def test_results_of_all_sizes(self):
         # around the sizes of buffers, and results longer than their input
         for count in (0, 1, 255, 256, 4090, 4091, 4092, 4093, 4096, 70000):
             with self.subTest(count=count):
                 data = b"\x9f" + b"\x00" * count + b"\xff"
                 head = b"\x80" if count == 0 else None
                 self.assertEqual(naltvigo.canonicalise(b"\x5b" + count.to_bytes(8, "big") + data[1:-1]), naltvigo.dumps(data[1:-1]))
-                answer = naltvigo.canonicalise(data)
-                self.assertEqual(answer[-count:] if count else b"", b"\x00" * count)
+                result = naltvigo.canonicalise(data)
+                self.assertEqual(result[-count:] if count else b"", b"\x00" * count)
                 if head:
-                    self.assertEqual(answer, head)
-                self.assertEqual(naltvigo.canonicalise(answer), answer)
+                    self.assertEqual(result, head)
+                self.assertEqual(naltvigo.canonicalise(result), result)
                 self.assertEqual(naltvigo.diagnostic(data), "[" + ", ".join("0" * count) + "]")
 
     def test_an_input_far_longer_than_the_limit(self):
@@ -267,11 +267,11 @@ class Rest(unittest.TestCase):
                 with self.subTest(name=name, wanted=wanted):
                     tracemalloc.start()
                     try:
-                        answer = answer_of(getattr(naltvigo, name), data, max_bytes=10)
+                        result = result_of(getattr(naltvigo, name), data, max_bytes=10)
                         most = tracemalloc.get_traced_memory()[1]
                     finally:
                         tracemalloc.stop()
-                    self.assertEqual(answer, wanted)
+                    self.assertEqual(result, wanted)
                     self.assertLess(most, 1 << 20)
         # at the limit nothing changes
         self.assertEqual(naltvigo.canonicalise(b"\x18\x00", max_bytes=2), b"\x00")
@@ -309,7 +309,7 @@ class Rest(unittest.TestCase):
                 data = b"\x9f" + bytes([number]) * (turn % 40) + b"\xff"
                 if naltvigo.diagnostic(data).count(str(number)) != turn % 40:
                     faults.append(data)
-                if answer_of(naltvigo.check, bytes([number, number])) != (12, 1, 1):
+                if result_of(naltvigo.check, bytes([number, number])) != (12, 1, 1):
                     faults.append(number)
 
         threads = [threading.Thread(target=work, args=(number,)) for number in range(1, 9)]

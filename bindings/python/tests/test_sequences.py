@@ -51,7 +51,7 @@ class Bulk(unittest.TestCase):
         with self.assertRaises(Refused):
             item_ends(data, canonical=True, order="length")
 
-    def test_answers_longer_than_the_input(self):
+    def test_results_longer_than_the_input(self):
         one = b"\x9f" + b"\0" * 256 + b"\xff"
         data, ends = canonicalise_items(one * 50)
         self.assertEqual(data, (b"\x99\x01\x00" + b"\0" * 256) * 50)

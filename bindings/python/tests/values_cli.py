@@ -10,7 +10,7 @@ import sys
 import naltvigo
 
 
-def answer(line, order, most):
+def result(line, order, most):
     try:
         value = naltvigo.loads(bytes.fromhex(line), order=order, depth=1024, max_bytes=most)
     except naltvigo.Refused as refused:
@@ -24,7 +24,7 @@ def main():
     order = sys.argv[1] if len(sys.argv) > 1 else "bytewise"
     most = int(sys.argv[2]) if len(sys.argv) > 2 else 1 << 30
     for line in sys.stdin:
-        print(answer(line.strip(), order, most))
+        print(result(line.strip(), order, most))
 
 
 if __name__ == "__main__":

@@ -12,10 +12,10 @@ use alloc::vec::Vec;
 // SAFETY, of each call below: a slice's pointer is not null and has as many bytes as its length;
 // outputs are borrowed mutably for the call, so they overlap nothing.
 
-/// The canonical bytes of the one valid item that `input` is.
+/// The canonical bytes of `input`, which must be one valid item.
 ///
-/// Two items have equal canonical bytes in one order exactly if their values are the same.
-/// Canonicalising canonical bytes returns them.
+/// In the same order, two items have equal canonical bytes if and only if their values are the same.
+/// If canonical bytes are canonicalised again, they do not change.
 pub fn canonicalise(input: &[u8], options: &Options) -> Result<Vec<u8>, Refused> {
     written(input, options, 1, |out| {
         canonicalise_into(input, options, out)
@@ -51,7 +51,7 @@ pub fn canonicalise_into(
     }
 }
 
-/// The diagnostic text (RFC 8949, section 8) of the one valid item that `input` is.
+/// The diagnostic text (RFC 8949, section 8) of `input`, which must be one valid item.
 ///
 /// ```
 /// use naltvigo::{diagnostic, Options};
@@ -126,8 +126,8 @@ pub fn check_canonical(input: &[u8], options: &Options) -> Result<(), Refused> {
     accepted(status, refusal, input, options)
 }
 
-/// Whether two valid items have the same value; the order of a map's pairs does not count
-/// (RFC 8949, section 5.6.1). The limits are for each of the two; the left one is checked first.
+/// Whether two valid items have the same value. The pairs of maps may be in any order (RFC 8949,
+/// section 5.6.1). The limits apply to each of the two. The left one is checked first.
 ///
 /// ```
 /// use naltvigo::{same, Options};
@@ -176,8 +176,8 @@ pub(crate) fn accepted(
     }
 }
 
-/// The sentence, the advice and the path of a refusal of this input, a line each. Empty if memory is
-/// refused.
+/// The sentence, the advice and the path of a refusal of this input, a line each. Empty if memory runs
+/// out.
 pub(crate) fn explain(input: &[u8], options: &Options, reason: Reason, offset: u64) -> Box<str> {
     let mut text = vec![0; 512];
     loop {

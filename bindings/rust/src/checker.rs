@@ -6,7 +6,7 @@ use crate::reason::Reason;
 use crate::refused::Refused;
 use core::ptr;
 
-/// What a [`Checker`] says after a part of an item that is not refused.
+/// What a [`Checker`] returns after a part of an item that is not refused.
 #[derive(Clone, Copy, Debug, PartialEq, Eq)]
 pub enum Checked {
     /// All of the part was used. Nothing is wrong so far, and the item needs more bytes.
@@ -17,11 +17,11 @@ pub enum Checked {
 
 /// Checks that an item that arrives in parts of any length is in its canonical bytes.
 ///
-/// After each part it says what [`check_canonical`](crate::check_canonical) says of all bytes of the item
-/// so far, wherever they were cut, and [`Checked::More`] where that is `Truncated`. So an item is refused
-/// at the first wrong byte. It stores the last key of each open map, the key that is not complete, and
-/// some 10 KiB, but no other byte of the item. If all bytes are at hand, `check_canonical` is several times
-/// faster.
+/// After each part it returns what [`check_canonical`](crate::check_canonical) returns for all bytes of the
+/// item so far, except that it returns [`Checked::More`] where that is `Truncated`. It does not matter where
+/// the item is cut into parts. So an item is refused at the first wrong byte. A `Checker` stores the last key
+/// of each open map, the key that is not complete, and about 10 KiB, but no other byte of the item. If you
+/// have all bytes, `check_canonical` is several times faster.
 ///
 /// ```
 /// use naltvigo::{Checked, Checker, Options, Reason};
@@ -46,7 +46,7 @@ pub struct Checker {
     raw: raw::Checker,
     options: Options,
     consumed: u64,
-    // Whether the item is refused for a byte after it, of which the library does not know.
+    // Whether a byte after the item was refused: the library does not refuse it.
     trailing: bool,
 }
 
@@ -57,8 +57,8 @@ unsafe impl Send for Checker {}
 unsafe impl Sync for Checker {}
 
 impl Checker {
-    /// A checker before an item's first byte. It is refused with [`Reason::Memory`] if there is no
-    /// memory for it.
+    /// A checker before an item's first byte. If there is no memory for the checker, the error is
+    /// [`Reason::Memory`].
     pub fn new(options: &Options) -> Result<Checker, Refused> {
         let mut raw = raw::Checker {
             memory: ptr::null_mut(),
@@ -90,11 +90,11 @@ impl Checker {
         self.consumed
     }
 
-    /// Checks the next part of the item. A part of no bytes is allowed, and is not the end.
+    /// Checks the next part of the item. A part of no bytes is allowed. It does not mean that the item ends.
     ///
-    /// Once the item is complete, nothing more is used: the result is `Complete(0)`. Once it is refused,
-    /// the result is the same refusal. Its offset counts from the item's first byte. After
-    /// [`Reason::Memory`] only a [`restart`](Checker::restart) goes on.
+    /// After the item is complete, a call consumes nothing and returns `Complete(0)`. After a refusal, a call
+    /// returns the same refusal. Its offset counts from the item's first byte. After [`Reason::Memory`], call
+    /// [`restart`](Checker::restart).
     pub fn take(&mut self, part: &[u8]) -> Result<Checked, Refused> {
         if self.trailing {
             return Err(self.refuse_trailing());
@@ -118,8 +118,8 @@ impl Checker {
         }
     }
 
-    /// Says that no byte follows: how many bytes the item has. It is refused as
-    /// [`Reason::Truncated`] if it is not complete.
+    /// For the end of the input: returns the number of bytes of the item. If the item is not complete, it is
+    /// refused as [`Reason::Truncated`].
     pub fn end(&mut self) -> Result<u64, Refused> {
         let mut refusal = raw::Refusal::default();
         // SAFETY: the library made the handle, and it is not freed.
@@ -131,7 +131,8 @@ impl Checker {
         }
     }
 
-    /// Goes on with another item, with the same options, whatever became of the one before.
+    /// Begins another item, with the same options. The item before it may be complete, refused or not
+    /// complete.
     pub fn restart(&mut self) {
         // SAFETY: the library made the handle, and it is not freed. The order is one, so it returns OK.
         unsafe {

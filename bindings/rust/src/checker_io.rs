@@ -11,9 +11,9 @@ use std::io::{self, ErrorKind, Read, Write};
 /// refused. After the last byte, [`end`](Checker::end) says whether the item is complete.
 ///
 /// A byte after the item is refused as [`Reason::Trailing`]: `write` returns how many bytes belong to the
-/// item, and the next call, with the bytes after them, fails. As each refusal, this one remains until
-/// [`restart`](Checker::restart), and `end` returns it too: it is not lost if another writer, such as
-/// [`BufWriter`](io::BufWriter) when it is dropped, ignores the error.
+/// item, and the next call, with the bytes after them, fails. After that, each call returns this refusal
+/// until [`restart`](Checker::restart), and `end` too. So it is not lost if another writer ignores the
+/// error, as [`BufWriter`](io::BufWriter) does when it is dropped.
 ///
 /// ```
 /// use naltvigo::{Checker, Options, Reason, Refused};
@@ -44,8 +44,8 @@ impl Write for Checker {
     }
 }
 
-/// An error that contains the refusal. Its kind is `UnexpectedEof` of [`Reason::Truncated`],
-/// `OutOfMemory` of [`Reason::Memory`], and otherwise `InvalidData`.
+/// An error that contains the refusal. Its kind is `UnexpectedEof` for [`Reason::Truncated`],
+/// `OutOfMemory` for [`Reason::Memory`], and otherwise `InvalidData`.
 impl From<Refused> for io::Error {
     fn from(refused: Refused) -> io::Error {
         let kind = match refused.reason {
@@ -60,9 +60,8 @@ impl From<Refused> for io::Error {
 // How many bytes a read returns at most.
 const AT_A_TIME: usize = 1 << 13;
 
-/// Checks that all bytes of a reader are one item in its canonical bytes, and returns their number. Of a
-/// slice with these bytes, [`check_canonical`](crate::check_canonical) refuses the same, with the same
-/// offset.
+/// Checks that all bytes of a reader are one item in its canonical bytes, and returns their number. For a
+/// slice with these bytes, [`check_canonical`](crate::check_canonical) returns the same refusal.
 ///
 /// It reads to the end, or until a byte is refused, and stores no more than a [`Checker`] does. A read that
 /// is interrupted is tried again; another error of the reader is [`ReadError::Read`].

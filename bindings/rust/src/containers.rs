@@ -84,7 +84,7 @@ pub struct Tag {
 }
 
 impl Tag {
-    /// A tag of this number over a content.
+    /// A tag with this number and content.
     pub fn new(number: u64, content: impl Into<Value>) -> Tag {
         let content = Box::new(content.into());
         Tag { number, content }
@@ -100,7 +100,7 @@ impl Tag {
         &self.content
     }
 
-    /// The content, taken out.
+    /// The content, moved out of the tag.
     pub fn into_content(mut self) -> Value {
         self.take()
     }

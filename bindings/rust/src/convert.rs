@@ -39,8 +39,8 @@ impl<T: Into<Value>> From<Option<T>> for Value {
     }
 }
 
-/// An array of what is collected: `[1, 2].into_iter().collect::<Value>()`. There is no
-/// `From<Vec<T>>`, since the bytes of a `Vec<u8>` might be a byte string or an array.
+/// An array of the items of an iterator: `[1, 2].into_iter().collect::<Value>()`. There is no
+/// `From<Vec<T>>`, because a `Vec<u8>` could mean a byte string or an array.
 impl<T: Into<Value>> FromIterator<T> for Value {
     fn from_iter<I: IntoIterator<Item = T>>(members: I) -> Value {
         Value::Array(members.into_iter().collect())

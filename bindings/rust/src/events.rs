@@ -12,7 +12,7 @@ use core::mem;
 #[derive(Clone, Copy, Debug, PartialEq, Eq)]
 #[non_exhaustive]
 pub struct Event<'a> {
-    /// The offset of its first byte, from the item's first one.
+    /// The offset of its first byte, from the item's first byte.
     pub offset: u64,
     /// How many bytes its argument has: 0, 1, 2, 4 or 8; none for an indefinite length and a break.
     pub width: Option<u8>,
@@ -37,7 +37,7 @@ pub enum Kind<'a> {
     Chunk(u64),
     /// Some bytes of a payload.
     Piece(&'a [u8]),
-    /// The end of what has indefinite length.
+    /// The end of an item of indefinite length.
     Break,
 }
 
@@ -120,9 +120,9 @@ pub(crate) fn event_of<'a>(event: &raw::Event, part: &'a [u8], begins: u64) -> E
     }
 }
 
-/// The events of the one item that a slice is.
+/// The events of a slice, which must be one item.
 ///
-/// A refusal is the last that comes: the item is not well-formed, a byte follows it, or the slice ends
+/// The iterator ends after a refusal: the item is not well-formed, a byte follows it, or the slice ends
 /// within it.
 ///
 /// ```
@@ -195,8 +195,8 @@ impl<'a> Iterator for Events<'a> {
 
 impl FusedIterator for Events<'_> {}
 
-/// The events of a part of an item, as [`Machine::events`] gives them. A refusal of the item's form
-/// is the last that comes.
+/// The events of a part of an item, from [`Machine::events`]. The iterator ends after a refusal of the
+/// item.
 #[derive(Debug)]
 #[must_use = "no byte is consumed before an event is requested"]
 pub struct PartEvents<'m, 'a> {
@@ -239,7 +239,7 @@ impl<'a> Iterator for PartEvents<'_, 'a> {
     }
 }
 
-// Events that were not given are those of bytes that the machine has not consumed.
+// Takes back the bytes of events that were not returned: the machine has then not consumed them.
 impl Drop for PartEvents<'_, '_> {
     fn drop(&mut self) {
         let Batch {

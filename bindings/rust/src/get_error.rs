@@ -15,8 +15,8 @@ use core::fmt;
 /// Why a look-up or a conversion fails. `Display` and `Debug` say it in a sentence:
 /// `the value at key "exp" is a text, not an integer`.
 ///
-/// A key is given as its diagnostic text. If a conversion that looks up keys fails within a look-up,
-/// the keys are joined by points, the outermost first: `the value at key "to"."id" is a text, not an
+/// A key is written as its diagnostic text. If a conversion that looks up keys fails within a look-up,
+/// the keys are joined with dots, the outermost first: `the value at key "to"."id" is a text, not an
 /// integer`.
 #[derive(Clone, PartialEq, Eq)]
 #[non_exhaustive]

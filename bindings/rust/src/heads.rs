@@ -53,7 +53,7 @@ pub(crate) enum NotFound {
 /// The value at the key of these canonical bytes, in the map that the input is.
 pub(crate) fn find(map: &[u8], key: &[u8]) -> Result<raw::Item, NotFound> {
     let mut value = raw::Item::default();
-    // SAFETY: the call reads within the two slices, whatever their bytes.
+    // SAFETY: the call reads only within the two slices, for any bytes.
     let status = unsafe {
         raw::naltvigo_find_raw(
             map.as_ptr(),

@@ -20,8 +20,8 @@ use core::iter::FusedIterator;
 /// An item in its canonical bytes, which it borrows. Reading from it needs no memory, except for a
 /// [`GetError`]'s text.
 ///
-/// Two items in one order of keys are equal exactly if their values are the same. `Display` and
-/// `Debug` are the diagnostic text.
+/// Two items in the same order of keys are equal if and only if their values are the same. `Display` and
+/// `Debug` write the diagnostic text.
 ///
 /// ```
 /// use naltvigo::{Item, Options, Value};
@@ -67,15 +67,15 @@ pub enum View<'a> {
 const SHORT: usize = 64;
 
 impl<'a> Item<'a> {
-    /// The item that the whole input is, if these are its canonical bytes. Fails as
-    /// [`check_canonical`] does; [`canonicalise`](crate::canonicalise) other bytes first.
+    /// The item of an input that is one item in its canonical bytes. Otherwise it fails as
+    /// [`check_canonical`] does. [`canonicalise`](crate::canonicalise) input in another encoding first.
     pub fn open(input: &'a [u8], options: &Options) -> Result<Item<'a>, Refused> {
         check_canonical(input, options)?;
         Ok(Item::first(input, options.order()))
     }
 
-    /// The item in canonical bytes at the front of a sequence, and the bytes after it. None where
-    /// no byte is left.
+    /// The item in canonical bytes at the start of a sequence, and the bytes after it. None if no byte is
+    /// left.
     pub fn open_front(
         input: &'a [u8],
         options: &Options,
@@ -130,8 +130,8 @@ impl<'a> Item<'a> {
 
     /// The value at a key of a map. None if this is not a map, or has no such key.
     ///
-    /// It reads the pairs before the key, so make a map of many pairs a
-    /// [`Value`](crate::Value) if you search it often.
+    /// It reads the pairs before the key. So if you look up many keys of a large map, decode it to a
+    /// [`Value`](crate::Value).
     pub fn get<'k>(self, key: impl Into<Key<'k>>) -> Option<Item<'a>> {
         self.find(key.into()).ok()
     }
@@ -142,7 +142,7 @@ impl<'a> Item<'a> {
     }
 
     /// The value at a key of a map, as this type: an item, an integer, `&str`, `String`, `&[u8]`,
-    /// `Vec<u8>`, `bool`, or a type with `TryFrom<Item>`. Of an array or a map take an item, then
+    /// `Vec<u8>`, `bool`, or a type with `TryFrom<Item>`. For an array or a map, get an item, and call
     /// [`into_members`](Item::into_members) or [`into_pairs`](Item::into_pairs).
     pub fn field<'k, T>(self, key: impl Into<Key<'k>>) -> Result<T, GetError>
     where
@@ -238,7 +238,7 @@ impl<'a> Item<'a> {
         }
     }
 
-    /// The content of a tag of this number. None if this is another tag, or none.
+    /// The content of a tag with this number. None if this is another tag, or is not a tag.
     pub fn tagged(self, number: u64) -> Option<Item<'a>> {
         match self.view() {
             View::Tag(found, content) if found == number => Some(content),
@@ -246,7 +246,7 @@ impl<'a> Item<'a> {
         }
     }
 
-    /// The value, owned. Its parts are read once, so this is how all of a deep item is read.
+    /// The value, owned. Each part of the item is read only once. So to read all of a deep item, use this.
     pub fn to_value(self) -> Value {
         value_of_bytes(self.bytes, self.order)
     }

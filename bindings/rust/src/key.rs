@@ -9,12 +9,12 @@ use core::cmp::Ordering;
 
 /// A key to look up in a map. Integers, texts, values and items become one with `from`.
 ///
-/// A look-up in a [`Map`](crate::Map) needs no memory, except for `Encoded`; one in an [`Item`] needs
-/// some for `Value`, and for a string of more than 64 bytes.
+/// A look-up in a [`Map`](crate::Map) allocates memory only for `Encoded`. A look-up in an [`Item`]
+/// allocates memory only for `Value`, and for a string of more than 64 bytes.
 #[derive(Clone, Copy, Debug)]
 #[non_exhaustive]
 pub enum Key<'k> {
-    /// An integer from 0.
+    /// An integer that is 0 or greater.
     Unsigned(u64),
     /// The integer -1 - n.
     Negative(u64),
@@ -53,7 +53,7 @@ impl<'k> From<Item<'k>> for Key<'k> {
 }
 
 impl<'k> Key<'k> {
-    /// The part that the key is. None of a key that may have more parts.
+    /// The part that the key is. None for a key that may have more parts.
     pub(crate) fn part(self) -> Option<Part<'k>> {
         let (kind, number, payload) = match self {
             Key::Unsigned(number) => (0, number, &[][..]),
@@ -70,8 +70,8 @@ impl<'k> Key<'k> {
     }
 }
 
-/// What a map of values is searched for: a value, or a part that is one. So a map finds a text without
-/// a `String`.
+/// A key to look for in a map of values: a value, or one part that is a value. So a map finds a text
+/// without a `String`.
 pub(crate) trait Sought {
     fn first(&self) -> Part<'_>;
     fn value(&self) -> Option<&Value>;

@@ -1,7 +1,7 @@
 //! Deterministic CBOR (RFC 8949, without floating-point numbers), by a library that is proved.
 //!
-//! Values in and out: a [`Value`] is made in Rust or decoded from any encoding, an [`Item`] reads from
-//! canonical bytes where they lie.
+//! You make a [`Value`] in Rust, or decode it from any encoding. An [`Item`] reads from canonical bytes
+//! without a copy.
 //!
 //! ```
 //! use naltvigo::{Item, Options, Value};
@@ -16,8 +16,8 @@
 //! # Ok::<(), Box<dyn std::error::Error>>(())
 //! ```
 //!
-//! Bytes: each accepted input has one canonical encoding, each refused one a reason and an exact
-//! offset.
+//! Each accepted input has one canonical encoding. For each refused input, the error has a reason and the
+//! offset of the fault.
 //!
 //! ```
 //! use naltvigo::{canonicalise, Options, Reason};
@@ -33,15 +33,15 @@
 //! # Ok::<(), naltvigo::Refused>(())
 //! ```
 //!
-//! The proved code is a library that this crate calls; the crate itself is tested. The library keeps
-//! no state but that of each [`Checker`], so any number of threads may call it at once. It allocates with
-//! C's `malloc`; values use Rust's allocator.
+//! The library that this crate calls is proved. The crate itself is tested. The library has no state,
+//! except for that of each [`Checker`], so any number of threads may call it at the same time. It allocates
+//! with C's `malloc`; values use Rust's allocator.
 //!
 //! The crate needs `std` only for [`check_reader`] and for a [`Checker`] that is a writer. Without the
 //! feature `std`, which is one of the default features, it is `no_std` with `alloc`.
 //!
-//! [`Value`], [`View`], [`Kind`], [`Step`] and [`Checked`] have all the variants that they will have.
-//! Other enums may get more, and [`Refused`] and [`Event`] more fields.
+//! Later versions of this crate add no variants to [`Value`], [`View`], [`Kind`], [`Step`] and
+//! [`Checked`]. They may add variants to other enums, and fields to [`Refused`] and [`Event`].
 #![no_std]
 #![warn(missing_docs)]
 // except for the calls of the library

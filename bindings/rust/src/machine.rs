@@ -20,9 +20,9 @@ pub enum Step<'a> {
 
 /// A machine that reads one item in parts of any length, and returns its events. It allocates no memory.
 ///
-/// It checks that the item is well-formed, and not UTF-8, repeated keys or canonical encoding, as a
-/// [`Checker`](crate::Checker) does. It does not know where the parts end: after the last one, a step of
-/// no bytes says whether the item is complete.
+/// It checks only that the item is well-formed. A [`Checker`](crate::Checker) also checks UTF-8, repeated
+/// keys and canonical encoding. A machine does not know which part is the last. After the last part, a step
+/// with no bytes returns whether the item is complete.
 ///
 /// ```
 /// use naltvigo::{Kind, Machine, Options, Step};
@@ -61,17 +61,17 @@ impl Machine {
     /// The events of a part. They end with the part, with the item, or with a refusal. Bytes after the
     /// item are not consumed.
     ///
-    /// If you leave before the end, the machine has consumed the bytes up to the last event that you
-    /// got, as [`consumed`](Machine::consumed) says. Continue with the bytes after them.
+    /// If you drop the iterator before its end, the machine has consumed the bytes up to the last event that
+    /// you got. [`consumed`](Machine::consumed) is their number. Continue with the bytes after them.
     pub fn events<'m, 'a>(&'m mut self, part: &'a [u8]) -> PartEvents<'m, 'a> {
         PartEvents::new(self, part)
     }
 
-    /// Consumes bytes from the front of a part until an event is complete, or none is left: how many,
-    /// and what came of them. Once the item is complete, or refused, it consumes none and returns the
-    /// same.
+    /// Consumes bytes from the start of a part until an event is complete or no byte is left. Returns the
+    /// number of these bytes, and the result. After the item is complete or refused, it consumes nothing and
+    /// returns the same result.
     ///
-    /// A call fills 9 KiB of its stack, so [`events`](Machine::events) is cheaper for many events.
+    /// A call writes 9 KiB of its stack. So for many events, [`events`](Machine::events) is faster.
     pub fn step<'a>(&mut self, part: &'a [u8]) -> (usize, Step<'a>) {
         let begins = self.consumed();
         let mut space = [raw::Event::default()];
@@ -123,7 +123,7 @@ impl Machine {
     }
 }
 
-// What came of a part: how many bytes of it were used, and how many events were returned.
+// The result of a part: how many of its bytes were used, and how many events were returned.
 #[derive(Clone, Debug)]
 pub(crate) struct Taken {
     pub status: u32,

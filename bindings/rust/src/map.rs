@@ -34,8 +34,8 @@ pub struct Map(Pairs);
 const FEW: usize = 32;
 
 impl Map {
-    /// The map of these pairs, in any order. Fails if two keys are equal. `collect` and `extend` keep
-    /// the last one, as those of `BTreeMap` do.
+    /// The map of these pairs, in any order. Fails if two keys are equal. If keys are equal, `collect`
+    /// and `extend` keep the last pair, as with `BTreeMap`.
     pub fn new(pairs: impl IntoIterator<Item = (Value, Value)>) -> Result<Map, RepeatedKey> {
         let mut pairs: Vec<_> = pairs.into_iter().collect();
         pairs.sort_by(|one, other| one.0.cmp(&other.0));

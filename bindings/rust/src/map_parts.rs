@@ -1,4 +1,4 @@
-//! What a map is made of: its pairs in one of two forms, an entry, and an iterator.
+//! The parts of a map: its pairs in one of two forms, an entry, and an iterator.
 
 use crate::key::Sought;
 use crate::value::Value;

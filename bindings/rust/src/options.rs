@@ -49,8 +49,8 @@ pub struct Options {
 
 impl Options {
     /// These options with other limits: how many levels arrays, maps and tags may nest, 0 to 1024,
-    /// and how many bytes an item and its canonical bytes may have, 0 to 2^62. None where one of
-    /// the two is greater.
+    /// and how many bytes an item and its canonical bytes may have, 0 to 2^62. None if one of the two
+    /// is greater.
     #[must_use]
     pub const fn with_limits(self, depth: u16, bytes: u64) -> Option<Options> {
         if depth as usize > DEPTH_MAX || bytes > 1 << 62 {

@@ -1,7 +1,7 @@
 //! Values as a list of parts: heads in the order of their bytes, each with the payload of a string.
 //!
-//! What goes over a value, or makes one, does it by this list. So it needs no stack of the machine's,
-//! however deep the value is.
+//! Code that reads all of a value, or makes one, uses this list. So it does not recurse, and a deep value
+//! cannot overflow the stack.
 
 use crate::map_parts;
 use crate::raw;
@@ -9,8 +9,8 @@ use crate::value::Value;
 use alloc::vec::Vec;
 use core::slice;
 
-/// A head, and the payload after it if it is a string's. The order of two parts is that of their
-/// bytes, since a greater number never has a shorter head.
+/// A head, and for a string the payload after it. The order of two parts is the order of their bytes,
+/// because a greater number never has a shorter head.
 #[derive(Clone, Copy, Debug, PartialEq, Eq, PartialOrd, Ord, Hash)]
 pub(crate) struct Part<'a> {
     pub kind: u8,

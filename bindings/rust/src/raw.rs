@@ -87,7 +87,7 @@ impl Machine {
             remaining: [0; DEPTH_MAX],
             kinds: [0; DEPTH_MAX],
         };
-        // SAFETY: the pointer is that of a whole machine. Options are in range, so it returns OK.
+        // SAFETY: the pointer points to a whole machine. The options are in range, so it returns OK.
         unsafe {
             naltvigo_machine_start_raw(options.depth().into(), options.bytes(), &mut machine)
         };

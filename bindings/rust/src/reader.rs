@@ -12,11 +12,11 @@ use core::error::Error;
 use core::fmt;
 use core::mem;
 
-/// The items of a sequence (RFC 8742) from a reader, each in its own bytes, as [`items`] gives those
-/// of a slice. `read` fills a buffer from its front and returns how many bytes came, none at the end.
+/// The items of a sequence (RFC 8742) from a reader, in any encoding, like [`items`] for a slice. `read`
+/// writes to the start of a buffer and returns the number of bytes, 0 at the end.
 ///
-/// An item is given once its last byte is there. The memory is bounded by the longest item, which the
-/// options limit, and what one call of `read` brings.
+/// An item is returned when its last byte has been read. The memory is bounded by the longest item, which
+/// the options limit, and one buffer for `read`.
 ///
 /// ```
 /// use naltvigo::{read_items, Options};
@@ -45,9 +45,8 @@ where
     }
 }
 
-/// The items of a sequence from a reader, each in its canonical bytes, as [`canonical_items`] gives
-/// those of a slice. An item that is not canonical is refused at the first wrong byte, without a further
-/// read.
+/// The items of a sequence from a reader, each in its canonical bytes, like [`canonical_items`] for a
+/// slice. An item that is not canonical is refused at the first wrong byte, and nothing more is read.
 pub fn read_canonical_items<E, R>(read: R, options: &Options) -> ReadItems<R>
 where
     R: FnMut(&mut [u8]) -> Result<usize, E>,
@@ -58,10 +57,10 @@ where
     }
 }
 
-/// Why no item is given, or accepted.
+/// Why no item is returned, or accepted.
 #[derive(Clone, PartialEq, Eq)]
 pub enum ReadError<E> {
-    /// The item is refused; the offset counts from the item's first byte. An iterator ends with it.
+    /// The item is refused. The offset counts from the item's first byte. An iterator ends after it.
     Refused(Refused),
     /// The reader failed. The next call of an iterator tries it again, and nothing is lost.
     Read(E),
@@ -87,33 +86,33 @@ impl<E: Error> Error for ReadError<E> {}
 // The size of the first buffer.
 const AT_A_TIME: usize = 1 << 16;
 
-/// The items of a sequence from a reader, as [`read_items`] and [`read_canonical_items`] give them.
+/// The items of a sequence from a reader: what [`read_items`] and [`read_canonical_items`] return.
 #[derive(Debug)]
 pub struct ReadItems<R> {
     read: R,
-    // What came and was not given lies from `start` to `end`.
+    // The bytes that were read and not returned are those from `start` to `end`.
     buffer: Vec<u8>,
     start: usize,
     end: usize,
     offset: u64,
-    // Of an item that is not all there.
+    // The state of an item that is not complete.
     cut: Option<Cut>,
     ended: bool,
     canonical: bool,
     options: Options,
 }
 
-// Takes the bytes of an item as they come, so that each is looked at once.
+// Reads the bytes of an item as they arrive, so that each is read once.
 #[derive(Debug)]
 enum Cut {
     // An item in any encoding: whether it is well-formed.
     Any(Box<Machine>),
-    // So an item that is not canonical is refused where it is wrong, and no more of it is read.
+    // A canonical item: it is refused at the first wrong byte, and no more of it is read.
     Canonical(Checker),
 }
 
 impl Cut {
-    // Whether more bytes must follow these, of which it took some before.
+    // Whether the item needs more bytes than these. It has read some of them before.
     fn needs_more(&mut self, came: &[u8]) -> bool {
         match self {
             Cut::Any(machine) => machine.needs_more(&came[machine.consumed() as usize..]),
@@ -183,7 +182,7 @@ impl<R> ReadItems<R> {
     {
         self.move_to_the_front();
         if self.buffer.len() == self.end {
-            // more than the limit of an item is never kept
+            // more than the byte limit of an item is never stored
             let limit = usize::try_from(self.options.bytes()).unwrap_or(usize::MAX);
             let most = limit.saturating_add(AT_A_TIME);
             let size = (2 * self.end).max(AT_A_TIME).min(most);

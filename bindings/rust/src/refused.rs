@@ -11,8 +11,9 @@ use alloc::boxed::Box;
 use core::error::Error;
 use core::fmt;
 
-/// Why an input is refused, and where. `Display` and `Debug`, which `main` prints of an error that it
-/// returns, are a sentence: `refused 12 Trailing at 1: The item is complete, and a byte follows it.`
+/// Why an input is refused, and where. `Display` and `Debug` write one line, which is also what a program
+/// prints if its `main` returns the error: `refused 12 Trailing at 1: The item is complete, and a byte
+/// follows it.`
 ///
 /// ```
 /// use naltvigo::{check, Options, Reason};
@@ -25,9 +26,9 @@ use core::fmt;
 #[derive(Clone, PartialEq, Eq, Hash)]
 #[non_exhaustive]
 pub struct Refused {
-    /// Why. [`Reason::Memory`] if memory was refused, and nothing is known of the input.
+    /// Why. [`Reason::Memory`] means that memory ran out, and that nothing is known about the input.
     pub reason: Reason,
-    /// The offset in bytes of what is wrong.
+    /// The offset of the fault, in bytes.
     pub offset: u64,
     /// How many bytes were consumed: those that the decision depends on.
     pub consumed: u64,
@@ -74,9 +75,9 @@ impl Refused {
         self.line(1)
     }
 
-    /// Where in the item it is: `$."a"[1]` is the second member of the array at the key `"a"`, and `$` the
-    /// item itself. It is `$` as well if the bytes were not at hand: of a [`Machine`](crate::Machine) or
-    /// a [`Checker`](crate::Checker).
+    /// The path to the fault: `$."a"[1]` is the second member of the array at the key `"a"`, and `$` is the
+    /// item itself. A [`Machine`](crate::Machine) and a [`Checker`](crate::Checker) do not store the bytes,
+    /// so with them it is always `$`.
     pub fn path(&self) -> &str {
         self.line(2)
     }

@@ -6,8 +6,8 @@ use crate::raw;
 use crate::refused::Refused;
 use core::iter::FusedIterator;
 
-/// The items of a sequence (RFC 8742), each in its own bytes. The limits are for each item, and the
-/// order of keys is not checked: see [`canonical_items`].
+/// The items of a sequence (RFC 8742), in any encoding. The limits are for each item. To accept only
+/// canonical items, use [`canonical_items`].
 ///
 /// ```
 /// use naltvigo::{items, Options};
@@ -25,8 +25,8 @@ pub fn items<'a>(input: &'a [u8], options: &Options) -> Items<'a> {
     }
 }
 
-/// The items of a sequence, each in its canonical bytes. One in another encoding is refused, as
-/// [`check_canonical`](crate::check_canonical) does. It takes no memory.
+/// The items of a sequence, each in its canonical bytes. An item in another encoding is refused, as by
+/// [`check_canonical`](crate::check_canonical). It allocates no memory.
 ///
 /// ```
 /// use naltvigo::{canonical_items, Options, Reason};
@@ -43,8 +43,8 @@ pub fn canonical_items<'a>(input: &'a [u8], options: &Options) -> Items<'a> {
     }
 }
 
-/// The items of a sequence, as [`items`] and [`canonical_items`] give them. A refusal, whose offset
-/// counts from its item's first byte, is the last that comes.
+/// The items of a sequence: what [`items`] and [`canonical_items`] return. The iterator ends after a
+/// refusal, whose offset counts from the first byte of its item.
 #[derive(Clone, Debug)]
 pub struct Items<'a> {
     left: &'a [u8],

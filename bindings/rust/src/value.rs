@@ -18,12 +18,13 @@ use core::hash::{Hash, Hasher};
 
 /// A value: what an item means, in any encoding. There are no floating-point numbers.
 ///
-/// Two values are equal exactly if their canonical bytes are, and their order is the bytewise order
-/// of these (RFC 8949, section 4.2.1). `Display` and `Debug` are the diagnostic text.
+/// Two values are equal if and only if their canonical bytes are equal. The order of values is the
+/// bytewise order of these bytes (RFC 8949, section 4.2.1). `Display` and `Debug` write the diagnostic
+/// text.
 ///
 /// Values are made, compared, encoded, shown and dropped without recursion, so a deep one does not
-/// overflow the stack. They live in Rust's collections, which abort if memory is refused; 1 MiB of
-/// small items takes up to 85 MiB while it is decoded.
+/// overflow the stack. They are stored in Rust's collections, which abort if memory runs out. While
+/// 1 MiB of small items is decoded, up to 85 MiB are in use.
 ///
 /// ```
 /// use naltvigo::{Options, Value};
@@ -84,30 +85,30 @@ impl Value {
         Map::new(pairs).map(Value::Map)
     }
 
-    /// An array of these members, as `collect` makes it of an iterator.
+    /// An array of these members. For an iterator, use `collect`.
     pub fn array(members: impl IntoIterator<Item = Value>) -> Value {
         members.into_iter().collect()
     }
 
-    /// A byte string. There is no `From<Vec<u8>>`, since `vec![1, 2]` might as well be an array.
+    /// A byte string. There is no `From<Vec<u8>>`, because `vec![1, 2]` could also mean an array.
     pub fn bytes(bytes: impl Into<Vec<u8>>) -> Value {
         Value::Bytes(bytes.into())
     }
 
-    /// A tag of this number over a content.
+    /// A tag with this number and content.
     pub fn tag(number: u64, content: impl Into<Value>) -> Value {
         Value::Tag(Tag::new(number, content))
     }
 
-    /// The canonical bytes. Fails if the value is not within the limits: `TooDeep`, `TooLong`,
-    /// `KeyKind`; and with `Memory` as [`canonicalise`] does.
+    /// The canonical bytes. Fails with `TooDeep`, `TooLong` or `KeyKind` if the value is not within the
+    /// limits, and with `Memory` if [`canonicalise`] does.
     ///
-    /// Heads and payloads are written in the order of the value; the proved `canonicalise` makes the
-    /// canonical bytes of them, in the requested order of keys.
+    /// Heads and payloads are written in the order of the value. Then the proved `canonicalise` makes the
+    /// canonical bytes from them, in the requested order of keys.
     pub fn encode(&self, options: &Options) -> Result<Vec<u8>, Refused> {
         let mut out = Vec::new();
         for part in self.parts() {
-            // the bytes so far are refused already, whatever follows
+            // these bytes are too long already, so they are refused with any bytes after them
             if out.len() as u64 > options.bytes() {
                 break;
             }
@@ -116,7 +117,7 @@ impl Value {
         canonicalise(&out, options)
     }
 
-    /// The value of the one valid item that the input is, in any encoding.
+    /// The value of an input that is one valid item, in any encoding.
     /// [`Item::open`](crate::Item::open) accepts only canonical bytes.
     pub fn decode(input: &[u8], options: &Options) -> Result<Value, Refused> {
         let bytes = canonicalise(input, options)?;

@@ -123,8 +123,8 @@ fn pairs() {
         let wanted = match pair[2].as_str() {
             "same" => Ok(true),
             "different" => Ok(false),
-            answer => {
-                let (side, rest) = answer.split_once(' ').unwrap();
+            result => {
+                let (side, rest) = result.split_once(' ').unwrap();
                 let side = if side == "left" {
                     Side::Left
                 } else {

@@ -2,7 +2,7 @@
 use Rattle.std.proofs.Common.{◌≡◌, ℕ, Bool, true, false, List, [], ◌∷◌, Option, Some, None, true≢false, refl, sym, ap, ◌∙◌, subst, IsTrue, IfSome, IsNone, ◌↔◌, Ok}
 use Rattle.theory_values.specs.Parts.{Open, plain, a_map, HasNoRepeats, IsInContainer}
 use Rattle.cbor_output.specs.declared.span.Span.{Span}
-use Rattle.cbor_builder.specs.Built.{Built, HasDistinctKeysSoFar, IsRepeatReported, LeavesIfDistinct, keys_so_far, AreAllDifferent}
+use Rattle.cbor_builder.specs.Built.{Built, built, HasDistinctKeysSoFar, IsRepeatReported, LeavesIfDistinct, keys_so_far, AreAllDifferent}
 use Rattle.cbor_builder.specs.inner.BuilderState.{open_levels, innermost, IsLaid, WasLaid, IsLeftOpen, came_open_levels}
 use Rattle.cbor_builder.specs.inner.CanonState.{if_sound, view_value, IsNested, IsKept}
 use Rattle.cbor_builder.specs.{declared.builder.Core.Core, declared.repeat.Repeat.Repeat, inner.Repeats.Reports}
@@ -14,6 +14,7 @@ use Rattle.cbor_builder.{specs.declared.canon_builder.CanonBuilder.TheInside.Ins
 pub record Known (b : Inside) (w : Built) : Type 0 where
   pub order : b.core.order ≡ w.order
   pub open_levels_is : open_levels b.core ≡ w.open_levels
+  pub kept : b.memory ≡ false
   pub laid : IsLaid b.core
   pub nested : IsNested w.open_levels
 
@@ -28,8 +29,9 @@ known P none b w kept e p =
     record {
       order = ap (λ (v : Built). v.order) e;
       open_levels_is = is;
-      laid = (kept s).0;
-      nested = subst IsNested is (kept s).1;
+      kept = (kept s).0;
+      laid = (kept s).1;
+      nested = subst IsNested is (kept s).2;
     }
 
 -- something is open
@@ -51,23 +53,24 @@ different_repeats c d = tt
 -- what is reported of it
 pub reported_there : {E : Type 0} (b : Inside) (w : Built) (n : Core) (distinct : Bool) (r : Option Repeat) (new : Built) (os : List Open) → IsKept b → view_value b ≡ w → IsInContainer w.open_levels → IsLeftOpen b.core n
     → distinct ≡ false → (IsTrue distinct ↔ HasNoRepeats (innermost b.core)) → ((came : List Span) → WasLaid came n → Reports (came_open_levels came n) r)
-    → new.order ≡ b.core.order → new.open_levels ≡ [] → LeavesIfDistinct {E = E} (Ok r) w new os
-reported_there b w n distinct r new os kept is inside left e d reports order nothing =
+    → new ≡ (record { order = b.core.order; open_levels = []; refused = b.memory }) → LeavesIfDistinct {E = E} (Ok r) w new os
+reported_there b w n distinct r new os kept is inside left e d reports after =
     let k = known IsInContainer (λ h. h) b w kept is inside in
+    let nothing : new ≡ built w.order [] = after ∙ (λ i. record { order = k.order i; open_levels = []; refused = k.kept i }) in
     let t = subst (λ (os : List Open). (IsNone r → ⊥) × (HasDistinctKeysSoFar os → ⊥) × IfSome r (λ (t : Repeat). IsRepeatReported os t.outside t.pair)) k.open_levels_is
     (by_result r (subst (λ (os : List Open). Reports os r) left.1 (reports b.core.spans.items left.0))) in
     record {
-      order = order ∙ k.order;
+      order = ap (λ (v : Built). v.order) nothing;
       distinct = ((λ none. absurd (t.0 none)), (λ h. absurd (t.1 h)));
       ended = λ none. absurd (t.0 none);
       reported = t.2;
-      left = always r;
+      left = always nothing r;
       refused = tt;
     }
   where
-    always : (r : Option Repeat) → IfSome r (λ _. new.open_levels ≡ [])
-    always None = tt
-    always (Some t) = nothing
+    always : new ≡ built w.order [] → (r : Option Repeat) → IfSome r (λ _. new ≡ built w.order [])
+    always nothing None = tt
+    always nothing (Some t) = nothing
 
     not_distinct : HasNoRepeats (innermost b.core) → ⊥
     not_distinct h = true≢false (sym (d.1 h) ∙ e)

@@ -1,16 +1,16 @@
 -- Which repeated key is reported, from the innermost out.
-use Rattle.std.proofs.Common.{◌≡◌, ℕ, suc, ◌+◌, ◌-◌, ◌^◌, ◌<◌, ◌≤◌, List, [], ◌∷◌, ◌++◌, length, drop, take, map, Option, Some, None, Bool, true, false, refl, sym, ap, ◌∙◌, subst, arith, inl, inr, IsTrue, MatchOption, IfSome, ◌↔◌}
+use Rattle.std.proofs.Common.{◌≡◌, ℕ, suc, ◌+◌, ◌-◌, ◌^◌, ◌<◌, ◌≤◌, List, [], ◌∷◌, ◌++◌, length, drop, map, Option, Some, None, Bool, true, false, refl, sym, ap, ◌∙◌, subst, arith, inl, inr, IsTrue, MatchOption, IfSome, ◌↔◌}
 use Rattle.std.{specs.Option.option_or, specs.Bool.then_some, proofs.lemmas.List.length-map, proofs.lemmas.List.drop_all}
 use Rattle.cbor_head.specs.{Prelude.Pair, declared.order.KeyOrder.KeyOrder}
 use Rattle.theory_values.{specs.Parts.Open, proofs.Sorting.rising_distinct}
 use Rattle.cbor_output.specs.{Spans.span_pair, declared.span.Span.Span}
 use Rattle.cbor_builder.specs.Built.{HasKey, IsRepeatedKey, IsRepeatReported, keys_so_far, open_maps, AreAllDifferent, IsFirstRepeat}
-use Rattle.cbor_builder.specs.inner.Laid.{pairs_from, shape_open, outer_spans, opens, Fits}
+use Rattle.cbor_builder.specs.inner.Laid.{pairs_from, shape_open, Fits}
 use Rattle.cbor_builder.specs.inner.Repeats.{first_of, maps_of, outward, ReportsOf, ReportsWithin, Reports, IsBelow}
 use Rattle.cbor_builder.specs.declared.frame.Shape.TheVariants.{Plain, Map, Key}
 use Rattle.cbor_builder.proofs.KeysSoFar.{first_more, waits_repeated, waits_alone, distinct_different}
-use Rattle.cbor_builder.specs.{inner.Prefix.key_of, declared.frame.Frame.Frame, declared.frame.Shape.Shape, declared.repeat.Repeat.Repeat}
-use Rattle.cbor_builder.proofs.{Growth.count, Neighbours.keys, Neighbours.keys-map}
+use Rattle.cbor_builder.{specs.inner.Prefix.key_of, specs.declared.frame.Shape.Shape, specs.declared.repeat.Repeat.Repeat, proofs.Growth.count}
+use Rattle.cbor_builder.proofs.Neighbours.{keys, keys-map}
 
 -- ---- from the innermost out
 
@@ -33,13 +33,6 @@ reports_all whole (Some t) h = let e : t.outside + 0 ≡ t.outside = omega arith
 pub maps_more : (out : List ℕ) (ss : List Span) (start : ℕ) (s : Shape) (os : List Open) → maps_of s + open_maps os ≡ open_maps (shape_open out ss start s ∷ os)
 maps_more out ss start Plain os = omega arith
 maps_more out ss start s os = omega arith
-
-pub maps_same : (raw out : List ℕ) (ss : List Span) (fs : List Frame) → open_maps (opens raw ss fs) ≡ open_maps (opens out ss fs)
-maps_same raw out ss [] = refl
-maps_same raw out ss (f ∷ fs) =
-    sym (maps_more raw ss f.start f.shape (opens (take f.from raw) (outer_spans ss f.shape) fs))
-    ∙ ap (λ (n : ℕ). maps_of f.shape + n) (maps_same (take f.from raw) (take f.from out) (outer_spans ss f.shape) fs)
-    ∙ maps_more out ss f.start f.shape (opens (take f.from out) (outer_spans ss f.shape) fs)
 
 -- ---- the number of maps
 

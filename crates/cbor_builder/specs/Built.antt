@@ -1,20 +1,21 @@
 -- What contracts see of a builder, and when it accepts the next part.
-use Rattle.std.specs.Prelude.{ℕ, suc, ◌≡◌, ◌↔◌, ◌<◌, ◌^◌, ◌⊎◌, List, [], ◌∷◌, ◌++◌, length, map, slice_index_or, Option, IsNone, IfSome, Result, OnOk, OnErr, IfOk}
+use Rattle.std.specs.Prelude.{ℕ, suc, Bool, false, IsTrue, ◌≡◌, ◌↔◌, ◌<◌, ◌^◌, ◌⊎◌, List, [], ◌∷◌, ◌++◌, length, map, slice_index_or, Option, IsNone, IfSome, Result, OnOk, OnErr, IfOk}
 use Rattle.cbor_head.specs.Prelude.{Value, Entries, HasEntry, Same, Pair}
 use Rattle.cbor_head.specs.declared.major.Major.TheVariants.{Unsigned, Negative, Bytes, Text, Array, Map, Tag, Simple}
 use Rattle.cbor_head.specs.declared.{order.KeyOrder.KeyOrder, major.Major.Major}
 use Rattle.theory_values.specs.Parts.{Open, an_array, a_map, a_key, a_string, HasNoRepeats}
 use Rattle.cbor_builder.specs.declared.repeat.Repeat.{Repeat}
 
--- The order of keys, and what is open, the innermost first. After a call that ran out of memory nothing is open until the
--- builder is cleared.
+-- The order of keys, what is open, the innermost first, and whether a request for memory was refused. After a call that
+-- ran out of memory nothing is open until the builder is cleared.
 pub record Built : Type 0 where
   pub order : KeyOrder
   pub open_levels : List Open
+  pub refused : Bool
 
--- a builder, by its order and what is open
+-- a builder to which no request was refused, by its order and what is open
 abbrev pub built : KeyOrder → List Open → Built
-built o os = record { order = o; open_levels = os }
+built o os = record { order = o; open_levels = os; refused = false }
 
 -- ---- kinds of items
 
@@ -133,11 +134,12 @@ IsRepeatReported (c ∷ os) outside pair =
 
 -- ---- what a call leaves
 
--- after a call the order is unchanged, and these are open, or nothing if memory ran out
+-- after a call the order is unchanged, and these are open; or an error is returned, which says that a request for memory was
+-- refused, and nothing is open
 pub record Leaves {A E : Type 0} (r : Result A E) (old new : Built) (os : List Open) : Type 0 where
   pub order : new.order ≡ old.order
   pub given : OnOk r (new ≡ built old.order os)
-  pub refused : OnErr r (new.open_levels ≡ [])
+  pub refused : OnErr r ((new.open_levels ≡ []) × IsTrue new.refused)
 
 -- the same if no two keys of the innermost are equal; otherwise nothing is open, and the repeated key is reported
 pub record LeavesIfDistinct {E : Type 0} (r : Result (Option Repeat) E) (old new : Built) (os : List Open) : Type 0 where
@@ -145,5 +147,5 @@ pub record LeavesIfDistinct {E : Type 0} (r : Result (Option Repeat) E) (old new
   pub distinct : IfOk r (λ reported. IsNone reported ↔ HasDistinctKeysSoFar old.open_levels)
   pub ended : IfOk r (λ reported. IsNone reported → new ≡ built old.order os)
   pub reported : IfOk r (λ reported. IfSome reported (λ repeat. IsRepeatReported old.open_levels repeat.outside repeat.pair))
-  pub left : IfOk r (λ reported. IfSome reported (λ _. new.open_levels ≡ []))
-  pub refused : OnErr r (new.open_levels ≡ [])
+  pub left : IfOk r (λ reported. IfSome reported (λ _. new ≡ built old.order []))
+  pub refused : OnErr r ((new.open_levels ≡ []) × IsTrue new.refused)

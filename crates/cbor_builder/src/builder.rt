@@ -1,7 +1,7 @@
 //! The builder: parts in, canonical bytes out.
 
 ghost use Rattle.std.specs.Prelude.{ℕ, List, ◌≡◌, ◌≢◌, ◌↔◌, ◌≤◌, ◌++◌, ◌∷◌, [], IsTrue};
-ghost use Rattle.std.specs.Prelude.{OnOk, MatchOption, take, length};
+ghost use Rattle.std.specs.Prelude.{OnOk, OnErr, MatchOption, take, length};
 ghost use Rattle.cbor_head.specs.Head.{shortest_head, IsSimple};
 ghost use Rattle.cbor_head.specs.declared.major.Major.TheVariants.{Simple};
 ghost use Rattle.cbor_builder.specs.Built.{IsKeyExpected, IsRepeatedKey, IsWaitingKey};
@@ -25,6 +25,7 @@ use crate::opening::opening;
 use crate::repeat::Repeat;
 use crate::repeats::{first_repeat, outward};
 use cbor_head::{KeyOrder, Major};
+use cbor_memory::Memory;
 use cbor_output::output_buffer::OutputBuffer;
 use cbor_output::span::Span;
 use std::alloc::{AllocError, Global};
@@ -74,22 +75,37 @@ impl Core {
 
     /// Adds an item that is only a head.
     #[inline(always)]
-    pub(crate) fn leaf(&mut self, major: Major, n: u64) -> Result<(), AllocError>
+    pub(crate) fn leaf(
+        &mut self,
+        memory: &mut Memory,
+        major: Major,
+        n: u64,
+    ) -> Result<(), AllocError>
         requires laid { IsLaid self.old }
         requires takes { Takes self.old.top.shape }
         requires simple { major ≡ Simple → IsSimple n }
-        ensures { CoreLeaves result self.old self.new
+        ensures kept { OnOk result (memory.new ≡ memory.old) }
+        ensures refused { OnErr result (IsTrue memory.new) }
+        ensures leaves { CoreLeaves result self.old self.new
             (give (shortest_head major n) (open_levels self.old)) }
     {
         let at = self.out.len();
-        self.out.head(major, n)?;
-        complete(&mut self.top, &mut self.spans, &self.out, self.order, at)
+        self.out.head(memory, major, n)?;
+        complete(
+            memory,
+            &mut self.top,
+            &mut self.spans,
+            &self.out,
+            self.order,
+            at,
+        )
     }
 
     /// Adds a whole string: the first `count` bytes of `prefix`.
     #[inline(always)]
     pub(crate) fn string(
         &mut self,
+        memory: &mut Memory,
         major: Major,
         prefix: &[u8],
         count: usize,
@@ -98,52 +114,84 @@ impl Core {
         requires laid { IsLaid self.old }
         requires takes { Takes self.old.top.shape }
         requires kind { major ≢ Simple }
-        ensures { CoreLeaves result self.old self.new
+        ensures kept { OnOk result (memory.new ≡ memory.old) }
+        ensures refused { OnErr result (IsTrue memory.new) }
+        ensures leaves { CoreLeaves result self.old self.new
             (give (shortest_head major count ++ take count prefix.now) (open_levels self.old)) }
     {
         let at = self.out.len();
-        self.out.string(major, prefix, count)?;
-        complete(&mut self.top, &mut self.spans, &self.out, self.order, at)
+        self.out.string(memory, major, prefix, count)?;
+        complete(
+            memory,
+            &mut self.top,
+            &mut self.spans,
+            &self.out,
+            self.order,
+            at,
+        )
     }
 
     /// Adds an item of no bytes.
     #[inline(always)]
-    pub(crate) fn nothing(&mut self) -> Result<(), AllocError>
+    pub(crate) fn nothing(&mut self, memory: &mut Memory) -> Result<(), AllocError>
         requires laid { IsLaid self.old }
         requires takes { Takes self.old.top.shape }
-        ensures { CoreLeaves result self.old self.new (give [] (open_levels self.old)) }
+        ensures kept { OnOk result (memory.new ≡ memory.old) }
+        ensures refused { OnErr result (IsTrue memory.new) }
+        ensures leaves { CoreLeaves result self.old self.new (give [] (open_levels self.old)) }
     {
         let at = self.out.len();
-        complete(&mut self.top, &mut self.spans, &self.out, self.order, at)
+        complete(
+            memory,
+            &mut self.top,
+            &mut self.spans,
+            &self.out,
+            self.order,
+            at,
+        )
     }
 
     /// Begins a string, an array, a map or a tag. The number is a tag's number; for the others it
     /// is the length or count for which the head gets space.
     #[inline(always)]
-    pub(crate) fn begin(&mut self, major: Major, n: u64) -> Result<(), AllocError>
+    pub(crate) fn begin(
+        &mut self,
+        memory: &mut Memory,
+        major: Major,
+        n: u64,
+    ) -> Result<(), AllocError>
         requires laid { IsLaid self.old }
         requires kind { major ≢ Simple }
+        ensures kept { OnOk result (memory.new ≡ memory.old) }
+        ensures refused { OnErr result (IsTrue memory.new) }
         ensures order { self.new.order ≡ self.old.order }
         ensures laid { OnOk result (IsLaid self.new) }
         ensures given { OnOk result (open_levels self.new ≡ opened major n ∷ open_levels self.old) }
     {
         let from = self.out.len();
-        self.out.head(major, n)?;
-        self.enter()?;
+        self.out.head(memory, major, n)?;
+        self.enter(memory)?;
         self.top = opening(major, from, self.out.len(), self.spans.len());
         Ok(())
     }
 
     /// Extends the open string by the first `count` bytes of `prefix`.
     #[inline(always)]
-    pub(crate) fn bytes(&mut self, prefix: &[u8], count: usize) -> Result<(), AllocError>
+    pub(crate) fn bytes(
+        &mut self,
+        memory: &mut Memory,
+        prefix: &[u8],
+        count: usize,
+    ) -> Result<(), AllocError>
         requires within { count ≤ length prefix.now }
         requires laid { IsLaid self.old }
         requires string { IsString self.old.top.shape }
-        ensures { CoreLeaves result self.old self.new
+        ensures kept { OnOk result (memory.new ≡ memory.old) }
+        ensures refused { OnErr result (IsTrue memory.new) }
+        ensures leaves { CoreLeaves result self.old self.new
             (extended (take count prefix.now) (open_levels self.old)) }
     {
-        self.out.extend_prefix(prefix, count)?;
+        self.out.extend_prefix(memory, prefix, count)?;
         Ok(())
     }
 

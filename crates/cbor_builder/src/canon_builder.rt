@@ -15,6 +15,7 @@ mod expected_key;
 use crate::builder::Core;
 use crate::repeat::Repeat;
 use cbor_head::{KeyOrder, Major};
+use cbor_memory::Memory;
 use std::alloc::{AllocError, Global};
 use std::marker::Model;
 
@@ -39,6 +40,8 @@ use std::marker::Model;
 #[derive(Drop)]
 pub struct CanonBuilder {
     core: Core,
+    memory: Memory,
+    // Whether no error and no repeated key was returned.
     is_sound: bool,
 }
 
@@ -61,6 +64,7 @@ impl CanonBuilder {
     {
         CanonBuilder {
             core: Core::new(alloc, order),
+            memory: Memory::new(),
             is_sound: true,
         }
     }
@@ -70,6 +74,7 @@ impl CanonBuilder {
         ensures { self.new ≡ built order (plain [] ∷ []) }
     {
         self.core.clear(order);
+        self.memory = Memory::new();
         self.is_sound = true;
     }
 
@@ -83,7 +88,7 @@ impl CanonBuilder {
         ensures { Leaves result self.old self.new
             (give (shortest_head major argument) self.old.open_levels) }
     {
-        let done = self.core.leaf(major, argument);
+        let done = self.core.leaf(&mut self.memory, major, argument);
         if done.is_err() {
             self.is_sound = false;
         }
@@ -117,7 +122,7 @@ impl CanonBuilder {
         ensures { Leaves result self.old self.new
             (give (shortest_head major count ++ take count prefix.now) self.old.open_levels) }
     {
-        let done = self.core.string(major, prefix, count);
+        let done = self.core.string(&mut self.memory, major, prefix, count);
         if done.is_err() {
             self.is_sound = false;
         }
@@ -130,7 +135,7 @@ impl CanonBuilder {
         requires takes { TakesPart self.old.open_levels }
         ensures { Leaves result self.old self.new (give [] self.old.open_levels) }
     {
-        let done = self.core.nothing();
+        let done = self.core.nothing(&mut self.memory);
         if done.is_err() {
             self.is_sound = false;
         }
@@ -144,7 +149,7 @@ impl CanonBuilder {
         requires takes { TakesPart self.old.open_levels }
         ensures { Leaves result self.old self.new (opened major 0 ∷ self.old.open_levels) }
     {
-        let done = self.core.begin(major, 0);
+        let done = self.core.begin(&mut self.memory, major, 0);
         if done.is_err() {
             self.is_sound = false;
         }
@@ -168,7 +173,7 @@ impl CanonBuilder {
         ensures { Leaves result self.old self.new
             (extended (take count prefix.now) self.old.open_levels) }
     {
-        let done = self.core.bytes(prefix, count);
+        let done = self.core.bytes(&mut self.memory, prefix, count);
         if done.is_err() {
             self.is_sound = false;
         }
@@ -183,7 +188,7 @@ impl CanonBuilder {
     {
         self.is_sound = false;
         // A string has no keys that could be equal.
-        let _ = self.core.end()?;
+        let _ = self.core.end(&mut self.memory)?;
         self.is_sound = true;
         Ok(())
     }
@@ -196,7 +201,7 @@ impl CanonBuilder {
         requires takes { TakesPart self.old.open_levels }
         ensures { Leaves result self.old self.new (opened major number ∷ self.old.open_levels) }
     {
-        let done = self.core.begin(major, number);
+        let done = self.core.begin(&mut self.memory, major, number);
         if done.is_err() {
             self.is_sound = false;
         }
@@ -211,7 +216,7 @@ impl CanonBuilder {
     {
         self.is_sound = false;
         // No two keys are the same.
-        let _ = self.core.end()?;
+        let _ = self.core.end(&mut self.memory)?;
         self.is_sound = true;
         Ok(())
     }
@@ -227,7 +232,7 @@ impl CanonBuilder {
             (close self.old.order self.old.open_levels) }
     {
         self.is_sound = false;
-        if !self.core.end()? {
+        if !self.core.end(&mut self.memory)? {
             return Ok(self.core.first_repeat());
         }
         self.is_sound = true;
@@ -269,7 +274,6 @@ impl CanonBuilder {
             → self.open_levels ≡ run self.order ps (plain [] ∷ [])
             → result.items ≡ canonical self.order v }
     {
-        let CanonBuilder { core, is_sound: _ } = self;
-        core.out.into_vec()
+        self.core.out.into_vec()
     }
 }

@@ -1,6 +1,6 @@
 //! A finished member of what is open.
 
-ghost use Rattle.std.specs.Prelude.{ℕ, ◌≡◌, ◌≤◌, ◌++◌, ◌∷◌, [], IsTrue, false, OnOk, map, drop, length};
+ghost use Rattle.std.specs.Prelude.{ℕ, ◌≡◌, ◌≤◌, ◌++◌, ◌∷◌, [], IsTrue, false, OnOk, OnErr, map, drop, length};
 ghost use Rattle.cbor_head.specs.declared.order.KeyOrder.{KeyOrder};
 ghost use Rattle.theory_values.specs.Pairs.{IsRising};
 ghost use Rattle.cbor_builder.specs.declared.frame.Shape.TheVariants.{Key, Map};
@@ -12,8 +12,8 @@ ghost use Rattle.cbor_builder.specs.inner.Laid.{KeepsRising};
 use crate::frame::{Frame, Shape};
 use crate::ranking::{compare, prefix};
 use cbor_head::KeyOrder;
+use cbor_memory::Memory;
 use cbor_output::output_buffer::OutputBuffer;
-use cbor_output::reserve::push;
 use cbor_output::span::Span;
 use std::alloc::AllocError;
 
@@ -44,6 +44,7 @@ pub(crate) fn is_above(
 /// Finishes a member that begins at `at` and ends the buffer.
 #[inline(always)]
 pub(crate) fn complete(
+    memory: &mut Memory,
     frame: &mut Frame,
     spans: &mut Vec<Span>,
     out: &OutputBuffer,
@@ -52,6 +53,8 @@ pub(crate) fn complete(
 ) -> Result<(), AllocError>
     requires takes { Takes frame.old.shape }
     requires ready { IsReady out.now spans.old.items at frame.old.shape }
+    ensures kept { OnOk result (memory.new ≡ memory.old) }
+    ensures refused { OnErr result (IsTrue memory.new) }
     ensures from { frame.new.from ≡ frame.old.from }
     ensures start { frame.new.start ≡ frame.old.start }
     ensures shape { frame.new.shape ≡ shape_after at frame.old.shape }
@@ -66,7 +69,9 @@ pub(crate) fn complete(
     }
     match frame.shape {
         Shape::Map(first) => frame.shape = Shape::Key(first, at),
-        Shape::Key(first, key) => return finish_pair(frame, spans, out, order, first, key, at),
+        Shape::Key(first, key) => return finish_pair(
+            memory, frame, spans, out, order, first, key, at,
+        ),
         Shape::Plain | Shape::Array(_) | Shape::Content(_) => {}
     }
     Ok(())
@@ -76,6 +81,7 @@ pub(crate) fn complete(
 // function of its own so that no space is made for a pair if none is finished.
 #[inline(always)]
 fn finish_pair(
+    memory: &mut Memory,
     frame: &mut Frame,
     spans: &mut Vec<Span>,
     out: &OutputBuffer,
@@ -87,6 +93,8 @@ fn finish_pair(
     requires first { first ≤ length spans.old.items }
     requires key { (key ≤ val) × (val ≤ length out.now) }
     requires prefixed { ArePrefixed out.now (drop first spans.old.items) }
+    ensures kept { OnOk result (memory.new ≡ memory.old) }
+    ensures refused { OnErr result (IsTrue memory.new) }
     ensures from { frame.new.from ≡ frame.old.from }
     ensures start { frame.new.start ≡ frame.old.start }
     ensures shape { frame.new.shape ≡ Map first }
@@ -104,5 +112,5 @@ fn finish_pair(
     let bytes = out.as_slice();
     frame.rises = frame.rises && is_above(bytes, order, spans.as_slice(), first, &span);
     frame.shape = Shape::Map(first);
-    push(spans, span)
+    memory.push(spans, span)
 }

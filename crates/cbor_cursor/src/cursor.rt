@@ -20,7 +20,7 @@ use crate::keys::{integer_head, text_head};
 use crate::map_pairs::value_at;
 use crate::members::Members;
 use crate::pairs::Pairs;
-use cbor_head::{KeyOrder, Limits, Major, Reason, Refusal};
+use cbor_head::{KeyOrder, Limits, Major, Refusal};
 use cbor_strict::check_canonical;
 use std::marker::Model;
 
@@ -82,7 +82,7 @@ impl<'a> Cursor<'a> {
     {
         let (cursor, rest) = Cursor::open(bytes, limits, order)?;
         if !rest.is_empty() {
-            return Err(Refusal::at(Reason::Trailing, cursor.bytes.len() as u64));
+            return Err(Refusal::trailing(cursor.bytes.len() as u64));
         }
         Ok(cursor)
     }

@@ -1,6 +1,6 @@
 -- A search for a character that a terminal does not show, a byte further on.
-use Rattle.std.proofs.Common.{ℕ, ◌<◌, ◌≤◌, ◌≡◌, ◌+◌, ◌-◌, ◌||◌, List, length, take, drop, true, false, sym, ap, ◌∙◌}
-use Rattle.std.proofs.lemmas.List.{at_drop_more, drop_all, take_rest}
+use Rattle.std.proofs.Common.{ℕ, ◌<◌, ◌≡◌, ◌+◌, ◌-◌, ◌||◌, List, length, take, drop, false, sym, ap, ◌∙◌}
+use Rattle.std.proofs.lemmas.List.{at_drop_more, take_rest}
 use Rattle.cbor_diag.specs.Hidden.{begins_hidden, has_hidden}
 
 -- the search so far found none
@@ -11,15 +11,7 @@ NoneBefore text i = has_hidden text ≡ has_hidden (drop i text)
 begins_at : (text : List ℕ) (i : ℕ) → i < length text → begins_hidden (take (length text - i) (drop i text)) ≡ begins_hidden (drop i text)
 begins_at text i within = ap begins_hidden (take_rest text i)
 
-pub found : (text : List ℕ) (i : ℕ) → i < length text → NoneBefore text i → begins_hidden (take (length text - i) (drop i text)) ≡ true → has_hidden text ≡ true
-found text i within none begins =
-    none ∙ at_drop_more has_hidden text i 0 within
-    ∙ ap (λ b. b || has_hidden (drop (i + 1) text)) (sym (at_drop_more begins_hidden text i 0 within) ∙ (sym (begins_at text i within) ∙ begins))
-
 pub none_yet : (text : List ℕ) (i : ℕ) → i < length text → NoneBefore text i → begins_hidden (take (length text - i) (drop i text)) ≡ false → NoneBefore text (i + 1)
 none_yet text i within none begins =
     none ∙ at_drop_more has_hidden text i 0 within
     ∙ ap (λ b. b || has_hidden (drop (i + 1) text)) (sym (at_drop_more begins_hidden text i 0 within) ∙ (sym (begins_at text i within) ∙ begins))
-
-pub none_at_all : (text : List ℕ) (i : ℕ) → length text ≤ i → NoneBefore text i → has_hidden text ≡ false
-none_at_all text i end none = none ∙ ap has_hidden (drop_all i text end)

@@ -1,16 +1,15 @@
--- Characters that a terminal acts on and does not show: the C1 controls (U+0080 to U+009F), the separators of lines and of
--- paragraphs (U+2028, U+2029), and the bidirectional controls (U+061C, U+200E, U+200F, U+202A to U+202E, U+2066 to U+2069).
-use Rattle.std.specs.Prelude.{ℕ, ◌==◌, ◌&&◌, ◌||◌, nat_le, Bool, false, List, [], ◌∷◌}
+-- Characters of a text in UTF-8 that a terminal acts on and does not show, beyond those of ASCII.
+use Rattle.std.specs.Prelude.{ℕ, ◌+◌, ◌-◌, ◌*◌, ◌&&◌, ◌||◌, Bool, false, List, [], ◌∷◌}
+use Rattle.cbor_text.specs.Hidden.{is_between, is_hidden}
 
 -- the UTF-8 of one in two bytes
 abbrev pub is_hidden_pair : ℕ → ℕ → Bool
-is_hidden_pair a b = (a == 0xc2 && (nat_le 0x80 b && nat_le b 0x9f)) || (a == 0xd8 && b == 0x9c)
+is_hidden_pair a b = is_between 0xc2 0xdf a && is_between 0x80 0xbf b && is_hidden (64 * (a - 0xc0) + (b - 0x80))
 
 -- the UTF-8 of one in three bytes
 abbrev pub is_hidden_triple : ℕ → ℕ → ℕ → Bool
 is_hidden_triple a b c =
-    a == 0xe2
-    && ((b == 0x80 && ((nat_le 0x8e c && nat_le c 0x8f) || (nat_le 0xa8 c && nat_le c 0xae))) || (b == 0x81 && (nat_le 0xa6 c && nat_le c 0xa9)))
+    is_between 0xe0 0xef a && is_between 0x80 0xbf b && is_between 0x80 0xbf c && is_hidden (4096 * (a - 0xe0) + 64 * (b - 0x80) + (c - 0x80))
 
 -- a text begins with one
 abbrev pub begins_hidden : List ℕ → Bool

@@ -1,7 +1,9 @@
-//! Characters of a text that a terminal acts on and does not show.
+//! Characters of a text that a terminal acts on and does not show, beyond those of ASCII.
 
 ghost use Rattle.std.specs.Prelude.{◌≡◌};
 ghost use Rattle.cbor_diag.specs.Hidden as hidden;
+
+use cbor_text::is_hidden;
 
 /// Whether a text in UTF-8 has a C1 control, a separator of lines or paragraphs, or a bidirectional
 /// control. Such a character may change how a terminal shows the text around it.
@@ -26,18 +28,21 @@ fn begins_hidden(text: &[u8]) -> bool
     }
 }
 
-// U+0080 to U+009F, and U+061C.
+// A character in two bytes: U+0080 to U+07FF.
 fn is_hidden_pair(a: u8, b: u8) -> bool
     ensures { result ≡ hidden.is_hidden_pair a b }
 {
-    (a == 0xc2 && (0x80 <= b && b <= 0x9f)) || (a == 0xd8 && b == 0x9c)
+    (0xc2 <= a && a <= 0xdf)
+        && (0x80 <= b && b <= 0xbf)
+        && is_hidden(64 * u32::from(a - 0xc0) + u32::from(b - 0x80))
 }
 
-// U+200E and U+200F, U+2028 to U+202E, and U+2066 to U+2069.
+// A character in three bytes: U+0800 to U+FFFF.
 fn is_hidden_triple(a: u8, b: u8, c: u8) -> bool
     ensures { result ≡ hidden.is_hidden_triple a b c }
 {
-    a == 0xe2
-        && ((b == 0x80 && ((0x8e <= c && c <= 0x8f) || (0xa8 <= c && c <= 0xae)))
-            || (b == 0x81 && (0xa6 <= c && c <= 0xa9)))
+    (0xe0 <= a && a <= 0xef)
+        && (0x80 <= b && b <= 0xbf)
+        && (0x80 <= c && c <= 0xbf)
+        && is_hidden(4096 * u32::from(a - 0xe0) + 64 * u32::from(b - 0x80) + u32::from(c - 0x80))
 }

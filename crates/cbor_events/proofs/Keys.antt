@@ -1,5 +1,5 @@
 -- The kind of a key, by its first byte.
-use Rattle.std.proofs.Common.{◌≡◌, ◌≢◌, ℕ, zero, ◌+◌, ◌-◌, ◌*◌, ◌/◌, ◌<◌, ◌≤◌, ◌⊎◌, true, false, inl, inr, List, [], ◌∷◌, ◌++◌, length, take, drop, refl, sym, ap, subst, ◌∙◌, arith, append-nil, length-append, slice_index_or, IsTrue, Option, Some, None, Result, Ok, Err, min}
+use Rattle.std.proofs.Common.{◌≡◌, ◌≢◌, ℕ, ◌+◌, ◌-◌, ◌*◌, ◌/◌, ◌<◌, ◌≤◌, ◌⊎◌, true, false, inl, inr, List, [], ◌∷◌, ◌++◌, length, take, drop, refl, sym, ap, subst, ◌∙◌, arith, append-nil, length-append, slice_index_or, IsTrue, Option, Some, None, Result, Ok, Err, min}
 use Rattle.std.{proofs.lemmas.Bool.cases_lt, specs.Io.KnownBytes.Consumes}
 use lib.Seq.{drop-append_seam}
 use Rattle.cbor_head.specs.Prelude.{Holds, IsHead, head, major_number, MayFollow, AreBytes, HoldsOrIndefinite, refusal}
@@ -9,9 +9,9 @@ use Rattle.cbor_head.specs.declared.event.EventKind.TheVariants as kinds
 use Rattle.cbor_head.specs.declared.{event.Event.Event, event.EventKind.EventKind, major.Major.Major}
 use Rattle.cbor_head.specs.declared.{reason.Reason.TheVariants.TooLong, reason.Reason.TheVariants.KeyKind, reason.Refusal.Refusal, width.Width.Width}
 use Rattle.theory_values.{specs.FirstBytes.is_basic, proofs.ByteLists.bytes_join}
-use Rattle.theory_automaton.specs.Automaton.{indefinite_map, State, start, at_item, in_head, in_simple, in_payload, run, reached}
+use Rattle.theory_automaton.specs.Automaton.{start, in_payload, run, reached}
 use Rattle.theory_automaton.{specs.Trace.Mark, specs.Marks.count_of, specs.Bytes.IsHeadBytes, specs.Bytes.IsEventBytes, proofs.Beginnings.reached-begins}
-use Rattle.theory_automaton.proofs.{Runs.run-on, Taking.IsClear}
+use Rattle.theory_automaton.proofs.{Runs.run-on, Taking.IsClear, Events.no-silent-break}
 use Rattle.cbor_machine.specs.State.{state_of, wanted_at, is_done}
 use Rattle.cbor_machine.specs.declared.position.Position.TheVariants as positions
 use Rattle.cbor_machine.specs.Machine.{StandsFor, KeepsLimits, IsComplete, IsGiven, wanted, wanted_within}
@@ -90,13 +90,6 @@ reported-kind e old new t ms b small h g k =
     basic-kind ms e.width e.kind b [] small (subst (IsEventBytes ms e.width e.kind) here g.bytes) k
 
 -- ---- a break reports something, or is refused
-
-no-silent-break : (d : ℕ) (q u : State) → IsClear q → run d q (0xff ∷ []) ≡ reached u [] → ⊥
-no-silent-break d (at_item (indefinite_map true ∷ fs)) u c e = cc e
-no-silent-break d (in_head chunk m w k acc fs) u c e = c
-no-silent-break d (in_simple fs) u c e = c
-no-silent-break d (in_payload chunk m zero fs) u c e = cc e
-no-silent-break d _ u c e = cc e
 
 module _ (old : MachineView) (t : List ℕ) (ms : List Mark) (h : StandsBetween old t ms) where
   clear-here : IsClear (state_of old.inner.position old.inner.frames)

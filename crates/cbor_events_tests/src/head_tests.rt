@@ -283,7 +283,7 @@ fn reasons(rt: HostRuntime) -> Result<(), Fail> {
         assert!(rt; names.next() == Some(text.as_str()), "{text}");
     }
     assert!(rt; names.next().is_none());
-    let refusal = Refusal::at(Reason::Trailing, 1);
+    let refusal = Refusal::trailing(1);
     assert!(rt; refusal == Refusal::new(Reason::Trailing, 1, 1));
     let text = format!(in rt.alloc(); "{refusal}")?;
     assert!(rt; text.as_str() == "12 Trailing at 1");

@@ -124,6 +124,13 @@ impl Refusal {
     {
         Refusal::new(reason, place, place)
     }
+
+    /// The refusal of bytes that continue after an item with this number of bytes.
+    pub fn trailing(size: u64) -> Refusal
+        ensures { result ≡ refusal Reason.Trailing size size }
+    {
+        Refusal::at(Reason::Trailing, size)
+    }
 }
 
 /// Writes the reason's number and name, and the offset: `12 Trailing at 1`.

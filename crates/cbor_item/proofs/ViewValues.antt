@@ -3,18 +3,15 @@ use Rattle.std.proofs.Common.{◌≡◌, ℕ, List, map, drop, Option, Some, Non
 use Rattle.cbor_head.specs.Value as value
 use Rattle.theory_values.specs.Lists.{values_of, entries_of}
 use Rattle.cbor_item.specs.declared.view_level.Level.TheVariants as levels
-use Rattle.cbor_item.specs.declared.view.View.TheViews.{Array, Map, Tag}
-use Rattle.cbor_item.specs.{OpenValues.closed, OpenValues.CanEnd, ViewValue.view_value, ViewValue.open_value, inner.ViewLevels.open_view}
-use Rattle.cbor_item.specs.declared.{view_level.Level.Level, view.View.View, view.View.the_lemmas}
+use Rattle.cbor_item.specs.{declared.view.View.TheViews.Array, declared.view.View.TheViews.Map, OpenValues.closed, OpenValues.CanEnd}
+use Rattle.cbor_item.specs.{ViewValue.view_value, ViewValue.open_value, inner.ViewLevels.open_view, declared.view_level.Level.Level}
+use Rattle.cbor_item.specs.declared.view.View.{View, the_lemmas}
 
 pub view_value-Array : (r : Bor (List View)) → view_value (Array r) ≡ value.array (values_of (map view_value r.now))
 view_value-Array r = search (rules, the_lemmas)
 
 pub view_value-Map : (r : Bor (List (View × View))) → view_value (Map r) ≡ value.map (entries_of (map (λ p. (view_value p.0, view_value p.1)) r.now))
 view_value-Map r = search (rules, the_lemmas)
-
-pub view_value-Tag : (n : ℕ) (b : Bor View) → view_value (Tag n b) ≡ value.tag n (view_value b.now)
-view_value-Tag n b = search (rules, the_lemmas)
 
 -- the value of the array that ends
 pub ended-array : (top : Level) (first : ℕ) (ms : List View) (ps : List (View × View)) (r : Bor (List View))

@@ -4,7 +4,7 @@ use Rattle.cbor_head.specs.declared.major.Major.TheVariants as Major
 use Rattle.cbor_head.specs.Value as value
 use Rattle.cbor_head.specs.Prelude.{Pair, canonical, canonical_all, canonical_entries, in_order, shortest_head, Value, values_count, IsInRange, AreInRange, AreEntriesInRange, IsValid, AreValid, AreEntriesValid}
 use Rattle.cbor_head.specs.declared.order.KeyOrder.{KeyOrder}
-use Rattle.theory_values.specs.Parts.{Open, plain, an_array, a_map, pair, with_member, closed, close, give, HasNoRepeats}
+use Rattle.theory_values.specs.Parts.{Open, an_array, a_map, pair, with_member, closed, close, give, HasNoRepeats}
 use Rattle.theory_values.{specs.Pairs.pair_bytes, specs.Pairs.AreKeysValid, proofs.Keys.distinct_exactly, proofs.Sound.valid_apart}
 use Rattle.theory_values.{proofs.Reported.length-canonical_entries, specs.Lists.values_of}
 use Rattle.cbor_builder.specs.Built.{Built, HasDistinctKeysSoFar, LeavesIfDistinct}
@@ -90,18 +90,6 @@ module _ {N : Type 0} (see : N → Value) where
           (λ g. ((flat_valid ps).1 g.0, (exactly ((valid_apart es).0 g.0).0).0 g.1)),
           (λ g. let e = (flat_valid ps).0 g.0 in (e, (exactly ((valid_apart es).0 e).0).1 g.1)),
         );
-      }
-
-  -- a tag with this content
-  pub opens_tag : (o : KeyOrder) (v : Value) (n : ℕ) (u : N) → value.tag n (see u) ≡ v → IsInRange v → Opens o v (plain (shortest_head Major.Tag n)) (see u ∷ [])
-  opens_tag o v n u is h =
-      let r = subst IsInRange (sym is) h in
-      let count : suc (suc (size (see u))) ≡ suc (suc (size (see u) + 0)) = omega arith in
-      record {
-        takes = (tt, r.1, tt);
-        bytes = ap (canonical o) is;
-        smaller = ap size (sym is) ∙ count;
-        valid = subst (λ w. IsValid w ↔ (AreAllValid (see u ∷ []) × Unit {0})) is ((λ g. ((g, tt), tt)), (λ g. g.0.0));
       }
 
 -- ---- along the walk

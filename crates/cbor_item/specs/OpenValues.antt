@@ -1,5 +1,5 @@
 -- What the parts given to a tree builder represent (RFC 8949, section 2).
-use Rattle.std.specs.Prelude.{ℕ, ◌≡◌, ◌++◌, List, [], ◌∷◌, map}
+use Rattle.std.specs.Prelude.{ℕ, ◌≡◌, ◌++◌, Bool, List, [], ◌∷◌, map}
 use Rattle.cbor_head.specs.Value as value
 use Rattle.cbor_head.specs.Prelude.{Value, Values, Entries}
 use Rattle.cbor_head.specs.declared.major.Major.TheVariants.{Array, Map, Tag}
@@ -18,6 +18,11 @@ pub data Open (A : Type 0) : Type 0 where
   -- a tag's content is its one member
   a_tag : ℕ → List A → Open A
 
+-- What contracts see of a builder: what is open, the innermost first, and whether a request for memory was refused.
+pub record Building (A : Type 0) : Type 0 where
+  pub items : List (Open A)
+  pub refused : Bool
+
 -- what is open, with items
 abbrev pub OpenItem : Type 0
 OpenItem = Open Item
@@ -35,8 +40,8 @@ open_value (a_key ps k) = a_key (map (λ (p : Item × Item). (view p.0, view p.1
 open_value (a_tag n is) = a_tag n (map view is)
 
 -- the same of all that is open
-abbrev pub open_levels : List OpenItem → List OpenValue
-open_levels os = map open_value os
+abbrev pub open_levels : Building Item → List OpenValue
+open_levels b = map open_value b.items
 
 -- with one more finished member
 abbrev pub with_member : Value → OpenValue → OpenValue

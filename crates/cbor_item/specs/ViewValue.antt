@@ -3,7 +3,7 @@ use Rattle.std.specs.Prelude.{List, map}
 use Rattle.cbor_head.specs.Value as value
 use Rattle.cbor_head.specs.Prelude.{Value}
 use Rattle.theory_values.specs.Lists.{values_of, entries_of}
-use Rattle.cbor_item.specs.OpenValues.{Open, OpenValue, the_whole, an_array, a_map, a_key, a_tag}
+use Rattle.cbor_item.specs.OpenValues.{Open, OpenValue, Building, the_whole, an_array, a_map, a_key, a_tag}
 use Rattle.cbor_item.specs.declared.view.View.{View, TheOpen.View-F, TheFolds.fold-View}
 
 -- one level, with each view inside already seen as its value
@@ -44,5 +44,5 @@ open_value (a_key ps k) = a_key (view_pairs ps) (view_value k)
 open_value (a_tag n vs) = a_tag n (view_values vs)
 
 -- the innermost first
-abbrev pub open_levels : List OpenView → List OpenValue
-open_levels os = map open_value os
+abbrev pub open_levels : Building View → List OpenValue
+open_levels b = map open_value b.items

@@ -1,9 +1,10 @@
 //! Canonical bytes.
 
-ghost use Rattle.std.specs.Prelude.{◌≡◌, ◌↔◌, IsSome, IfSome, IfOk, IfErr, option_map};
+ghost use Rattle.std.specs.Prelude.{◌≡◌, ◌↔◌, IsSome, IsTrue, IfSome, IfOk, IfErr, OnErr, option_map};
 ghost use Rattle.cbor_head.specs.Canonical.{canonical};
 ghost use Rattle.cbor_head.specs.Value.{IsInRange, IsValid};
-ghost use Rattle.cbor_builder.specs.Built.{TakesPart};
+ghost use Rattle.cbor_builder.specs.Built.{LeavesIfDistinct, TakesPart};
+ghost use Rattle.theory_values.specs.Parts.{IsInContainer, close};
 ghost use Rattle.cbor_item.specs.Sent.{no_memory};
 ghost use Rattle.cbor_item.specs.View.{view};
 ghost use Rattle.cbor_item.specs.inner.Rest.{left};
@@ -12,8 +13,9 @@ ghost use Rattle.cbor_item.specs.inner.Walk.{IsBegun};
 use crate::node::{Node, NodeKind};
 use crate::rest::Rest;
 use crate::tree::Tree;
-use cbor_builder::CanonBuilder;
+use cbor_builder::{CanonBuilder, Repeat};
 use cbor_head::{KeyOrder, Major, Reason, Refusal};
+use cbor_memory::Memory;
 use std::alloc::{AllocError, Global};
 
 /// The canonical bytes (RFC 8949, sections 4.2.1 and 4.2.3). It fails only if memory runs
@@ -22,7 +24,21 @@ pub fn encode(alloc: Global, tree: &Tree, order: KeyOrder) -> Result<Vec<u8>, Re
     ensures bytes { IfOk result (λ bytes. bytes.items ≡ canonical order (view tree.now)) }
     ensures refused { IfErr result (λ refusal. refusal ≡ no_memory) }
 {
-    match encode_distinct(alloc, tree.item(), order) {
+    encode_in(&mut Memory::new(), alloc, tree, order)
+}
+
+/// Encodes as [`encode`] does, and records in `memory` whether a request for memory was refused. It fails only if one was.
+pub fn encode_in(
+    memory: &mut Memory,
+    alloc: Global,
+    tree: &Tree,
+    order: KeyOrder,
+) -> Result<Vec<u8>, Refusal>
+    ensures memory { OnErr result (IsTrue memory.new) }
+    ensures bytes { IfOk result (λ bytes. bytes.items ≡ canonical order (view tree.now)) }
+    ensures refused { IfErr result (λ refusal. refusal ≡ no_memory) }
+{
+    match encode_distinct(memory, alloc, tree.item(), order) {
         Ok(Some(bytes)) => Ok(bytes),
         Ok(None) => unreachable!(),
         Err(_) => Err(Refusal::at(Reason::Memory, 0)),
@@ -33,11 +49,13 @@ pub fn encode(alloc: Global, tree: &Tree, order: KeyOrder) -> Result<Vec<u8>, Re
 //
 // What is open is in a list and not on the stack, so a node may have any depth.
 pub(crate) fn encode_distinct<N: Node>(
+    memory: &mut Memory,
     alloc: Global,
     node: &N,
     order: KeyOrder,
 ) -> Result<Option<Vec<u8>>, AllocError>
     requires { IsInRange (N.value node.now) }
+    ensures refused { OnErr result (IsTrue memory.new) }
     ensures valid { IfOk result (λ bytes. IsSome bytes ↔ IsValid (N.value node.now)) }
     ensures bytes { IfOk result (λ bytes.
         IfSome bytes (λ bytes. bytes.items ≡ canonical order (N.value node.now))) }
@@ -49,8 +67,8 @@ pub(crate) fn encode_distinct<N: Node>(
         match rest.next() {
             Some((next, behind)) => {
                 rest = behind;
-                if let Some(content) = begin(&mut builder, next)? {
-                    outer.push(rest)?;
+                if let Some(content) = begin(memory, &mut builder, next)? {
+                    memory.push(&mut outer, rest)?;
                     rest = content;
                 }
             }
@@ -58,7 +76,7 @@ pub(crate) fn encode_distinct<N: Node>(
                 let Some(behind) = outer.pop() else {
                     break;
                 };
-                if builder.end_if_distinct()?.is_some() {
+                if end_if_distinct(memory, &mut builder)?.is_some() {
                     return Ok(None);
                 }
                 rest = behind;
@@ -68,13 +86,45 @@ pub(crate) fn encode_distinct<N: Node>(
     Ok(Some(builder.finish()))
 }
 
-// Adds a node that holds no other. Begins one that does, and returns what it holds.
+// Ends what is open. A refused request is recorded.
+fn end_if_distinct(
+    memory: &mut Memory,
+    builder: &mut CanonBuilder,
+) -> Result<Option<Repeat>, AllocError>
+    requires { IsInContainer builder.old.open_levels }
+    ensures refused { OnErr result (IsTrue memory.new) }
+    ensures ends { LeavesIfDistinct result builder.old builder.new
+        (close builder.old.order builder.old.open_levels) }
+{
+    let done = builder.end_if_distinct();
+    memory.noted(done, builder.memory())
+}
+
+// Adds a node that holds no other. Begins one that does, and returns what it holds. A refused request is recorded.
 fn begin<'a, N: Node>(
+    memory: &mut Memory,
     builder: &mut CanonBuilder,
     node: &'a N,
 ) -> Result<Option<Rest<'a, N>>, AllocError>
     requires takes { TakesPart builder.old.open_levels }
     requires in_range { IsInRange (N.value node.now) }
+    ensures refused { OnErr result (IsTrue memory.new) }
+    ensures order { IfOk result (λ _. builder.new.order ≡ builder.old.order) }
+    ensures begun { IfOk result (λ content. IsBegun builder.old.order (N.value node.now)
+        builder.old.open_levels builder.new.open_levels (option_map (left N.value) content)) }
+{
+    let done = begin_part(builder, node);
+    memory.noted(done, builder.memory())
+}
+
+// The same for the builder alone.
+fn begin_part<'a, N: Node>(
+    builder: &mut CanonBuilder,
+    node: &'a N,
+) -> Result<Option<Rest<'a, N>>, AllocError>
+    requires takes { TakesPart builder.old.open_levels }
+    requires in_range { IsInRange (N.value node.now) }
+    ensures refused { OnErr result (IsTrue builder.new.refused) }
     ensures order { IfOk result (λ _. builder.new.order ≡ builder.old.order) }
     ensures begun { IfOk result (λ content. IsBegun builder.old.order (N.value node.now)
         builder.old.open_levels builder.new.open_levels (option_map (left N.value) content)) }

@@ -1,7 +1,8 @@
 //! The content of a string in chunks.
 
-ghost use Rattle.std.specs.Prelude.{◌≡◌, ◌≤◌, ◌++◌, [], length, take, OnOk};
+ghost use Rattle.std.specs.Prelude.{◌≡◌, ◌≤◌, ◌++◌, [], length, take, IsTrue, OnOk, OnErr};
 
+use cbor_memory::Memory;
 use std::alloc::{AllocError, Global};
 use std::marker::Model;
 
@@ -58,9 +59,16 @@ impl Joined {
     /// Appends the first `count` bytes of `prefix`. Up to 32 are copied as one piece of 32, if the
     /// slice has 32 bytes.
     #[inline(always)]
-    pub fn extend_prefix(&mut self, prefix: &[u8], count: usize) -> Result<(), AllocError>
+    pub fn extend_prefix(
+        &mut self,
+        memory: &mut Memory,
+        prefix: &[u8],
+        count: usize,
+    ) -> Result<(), AllocError>
         requires { count ≤ length prefix.now }
-        ensures { OnOk result (self.new ≡ self.old ++ take count prefix.now) }
+        ensures kept { OnOk result (memory.new ≡ memory.old) }
+        ensures refused { OnErr result (IsTrue memory.new) }
+        ensures extended { OnOk result (self.new ≡ self.old ++ take count prefix.now) }
     {
         if count <= BLOCK && self.buf.len() - self.len >= BLOCK {
             if let Some(block) = prefix.first_chunk::<BLOCK>() {
@@ -69,19 +77,21 @@ impl Joined {
                 return Ok(());
             }
         }
-        self.extend(&prefix[..count])
+        self.extend(memory, &prefix[..count])
     }
 
     // Appends all of these bytes, and leaves space after them.
     #[inline(never)]
-    fn extend(&mut self, bytes: &[u8]) -> Result<(), AllocError>
-        ensures { OnOk result (self.new ≡ self.old ++ bytes.now) }
+    fn extend(&mut self, memory: &mut Memory, bytes: &[u8]) -> Result<(), AllocError>
+        ensures kept { OnOk result (memory.new ≡ memory.old) }
+        ensures refused { OnErr result (IsTrue memory.new) }
+        ensures extended { OnOk result (self.new ≡ self.old ++ bytes.now) }
     {
         self.buf.truncate(self.len);
-        self.buf.reserve(bytes.len() + SPACE)?;
-        self.buf.extend_from_slice(bytes)?;
+        memory.reserve(&mut self.buf, bytes.len() + SPACE)?;
+        memory.extend(&mut self.buf, bytes)?;
         let len = self.buf.len();
-        self.buf.resize(len.saturating_add(SPACE), 0)?;
+        self.buf.resize(len + SPACE, 0)?;
         self.len = len;
         Ok(())
     }

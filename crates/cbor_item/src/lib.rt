@@ -38,7 +38,8 @@ mod write;
 
 pub use cbor_builder::{CanonBuilder, Repeat};
 pub use cbor_head::KeyOrder;
-pub use encoding::encode;
+pub use cbor_memory::Memory;
+pub use encoding::{encode, encode_in};
 pub use item::Item;
 pub use joined::Joined;
 pub use node::{Node, NodeKind};
@@ -49,4 +50,4 @@ pub use tree::Tree;
 pub use tree_builder::TreeBuilder;
 pub use view::View;
 pub use view_builder::ViewBuilder;
-pub use write::{encode_to, write_whole};
+pub use write::{encode_to, encode_to_in, write_whole};

@@ -1,6 +1,6 @@
 //! Items of bounded depth without equal keys.
 
-ghost use Rattle.std.specs.Prelude.{◌≡◌, ◌≤◌, IfOk, IfErr};
+ghost use Rattle.std.specs.Prelude.{◌≡◌, ◌≤◌, IsTrue, IfOk, IfErr};
 ghost use Rattle.cbor_head.specs.Value.{depth, IsInRange, IsValid};
 ghost use Rattle.cbor_head.specs.declared.limits.TheConstants.{MAX_DEPTH};
 ghost use Rattle.cbor_item.specs.Refused.{Refuses};
@@ -11,6 +11,7 @@ use crate::encoding::encode_distinct;
 use crate::item::Item;
 use crate::within::is_within;
 use cbor_head::{KeyOrder, Reason};
+use cbor_memory::Memory;
 use std::alloc::Global;
 use std::marker::Model;
 
@@ -50,10 +51,23 @@ impl Tree {
         ensures given_back { IfErr result (λ e. e.0 ≡ item) }
         ensures refused { IfErr result (λ e. Refuses (view item) e.1) }
     {
+        Tree::of_in(&mut Memory::new(), alloc, item)
+    }
+
+    /// Makes a tree as [`of`](Tree::of) does, and records in `memory` whether a request for memory was refused. The
+    /// reason is `Memory` only if one was.
+    pub fn of_in(memory: &mut Memory, alloc: Global, item: Item) -> Result<Tree, (Item, Reason)>
+        ensures memory { IfErr result (λ e. e.1 ≡ Reason.Memory → IsTrue memory.new) }
+        ensures tree { IfOk result (λ tree. tree ≡ item) }
+        ensures accepted { IfOk result
+            (λ _. (depth (view item) ≤ MAX_DEPTH) × IsInRange (view item) × IsValid (view item)) }
+        ensures given_back { IfErr result (λ e. e.0 ≡ item) }
+        ensures refused { IfErr result (λ e. Refuses (view item) e.1) }
+    {
         if !is_within(&item) {
             return Err((item, Reason::TooDeep));
         }
-        match encode_distinct(alloc, &item, KeyOrder::Bytewise) {
+        match encode_distinct(memory, alloc, &item, KeyOrder::Bytewise) {
             Ok(Some(_)) => Ok(Tree { item }),
             Ok(None) => Err((item, Reason::RepeatedKey)),
             Err(_) => Err((item, Reason::Memory)),

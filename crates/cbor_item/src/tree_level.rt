@@ -1,6 +1,6 @@
 //! The open parts of an item that is being built.
 
-ghost use Rattle.std.specs.Prelude.{◌≡◌, OnOk, IfOk};
+ghost use Rattle.std.specs.Prelude.{◌≡◌, IsTrue, OnOk, OnErr, IfOk};
 ghost use Rattle.cbor_head.specs.declared.major.Major.TheVariants as majors;
 ghost use Rattle.cbor_builder.specs.Built.{IsContainer};
 ghost use Rattle.cbor_item.specs.OpenValues.{CanHold, CanEnd, with_member, opened, closed};
@@ -10,6 +10,7 @@ ghost use Rattle.cbor_item.specs.inner.Levels.{level_value, HasSpace};
 use crate::dropping::drop_deep;
 use crate::item::Item;
 use cbor_head::Major;
+use cbor_memory::Memory;
 use std::alloc::{AllocError, Global};
 
 /// An open part, with its finished members.
@@ -38,11 +39,13 @@ impl Level {
     }
 
     // Adds one more member. If memory runs out, the member is dropped.
-    pub(crate) fn put(&mut self, item: Item) -> Result<(), AllocError>
+    pub(crate) fn put(&mut self, memory: &mut Memory, item: Item) -> Result<(), AllocError>
         requires { CanHold (level_value self.old) }
-        ensures { OnOk result (level_value self.new ≡ with_member (view item) (level_value self.old)) }
+        ensures kept { OnOk result (memory.new ≡ memory.old) }
+        ensures refused { OnErr result (IsTrue memory.new) }
+        ensures given { OnOk result (level_value self.new ≡ with_member (view item) (level_value self.old)) }
     {
-        if let Err(refused) = self.make_space() {
+        if let Err(refused) = self.make_space(memory) {
             drop_deep(item);
             return Err(refused);
         }
@@ -50,13 +53,15 @@ impl Level {
         Ok(())
     }
 
-    fn make_space(&mut self) -> Result<(), AllocError>
+    fn make_space(&mut self, memory: &mut Memory) -> Result<(), AllocError>
+        ensures kept { OnOk result (memory.new ≡ memory.old) }
+        ensures refused { OnErr result (IsTrue memory.new) }
         ensures same { level_value self.new ≡ level_value self.old }
         ensures space { OnOk result (HasSpace self.new) }
     {
         match self {
-            Level::Array(items) => items.reserve(1),
-            Level::Map(pairs, _) => pairs.reserve(1),
+            Level::Array(items) => memory.reserve(items, 1),
+            Level::Map(pairs, _) => memory.reserve(pairs, 1),
             Level::Whole(_) | Level::Tag(..) => Ok(()),
         }
     }
@@ -78,17 +83,19 @@ impl Level {
     }
 
     // The item of the part that ends.
-    pub(crate) fn ended(self, alloc: Global) -> Result<Item, AllocError>
+    pub(crate) fn ended(self, memory: &mut Memory, alloc: Global) -> Result<Item, AllocError>
         requires { CanEnd (level_value self) }
-        ensures { IfOk result (λ item. view item ≡ closed (level_value self)) }
+        ensures kept { OnOk result (memory.new ≡ memory.old) }
+        ensures refused { OnErr result (IsTrue memory.new) }
+        ensures item { IfOk result (λ item. view item ≡ closed (level_value self)) }
     {
         match self {
             Level::Array(items) => Ok(Item::Array(items)),
             Level::Map(pairs, _) => Ok(Item::Map(pairs)),
-            Level::Tag(number, Some(content)) => match Box::new(alloc, content) {
+            Level::Tag(number, Some(content)) => match memory.boxed(alloc, content) {
                 Ok(content) => Ok(Item::Tag(number, content)),
-                Err(refused) => {
-                    drop_deep(refused.value);
+                Err(content) => {
+                    drop_deep(content);
                     Err(AllocError)
                 }
             },

@@ -1,6 +1,6 @@
 //! Views from their parts, without recursion.
 
-ghost use Rattle.std.specs.Prelude.{◌≡◌, ◌∷◌, [], List, OnOk, IfOk, IsSome, Some};
+ghost use Rattle.std.specs.Prelude.{◌≡◌, ◌∷◌, [], List, OnOk, OnErr, IfOk, IsSome, IsTrue, Some, false};
 ghost use Rattle.std.specs.Prelude.{MatchResult};
 ghost use Rattle.cbor_head.specs.Value.{Value, bytes, text};
 ghost use Rattle.cbor_builder.specs.Built.{IsContainer};
@@ -13,7 +13,7 @@ use crate::view::View;
 use crate::view_level::Level;
 use bumpalo::Bump;
 use cbor_head::Major;
-use cbor_output::reserve::{push, push_copy};
+use cbor_memory::Memory;
 use std::alloc::{AllocError, Global};
 use std::marker::Model;
 
@@ -24,6 +24,7 @@ use std::marker::Model;
 #[derive(Drop)]
 pub struct ViewBuilder<'a> {
     arena: &'a Bump,
+    memory: Memory,
     top: Level<'a>,
     // What is open around it, the innermost last.
     below: Vec<Level<'a>>,
@@ -34,18 +35,22 @@ pub struct ViewBuilder<'a> {
 }
 
 impl<'a> Model for ViewBuilder<'a> {
-    ghost use Rattle.std.specs.Prelude.{List, ◌∷◌, reverse};
-    ghost use Rattle.cbor_item.specs.ViewValue.{OpenView};
+    ghost use Rattle.std.specs.Prelude.{◌∷◌, reverse};
+    ghost use Rattle.cbor_item.specs.OpenValues.{Building};
+    ghost use Rattle.cbor_item.specs.declared.view.View.{View};
     ghost use Rattle.cbor_item.specs.inner.ViewLevels.{open_views, AllBegin};
     ghost use Rattle.cbor_item.specs.contracts.view.View as e;
     ghost use Rattle.std.specs.Coded.{codes};
     ghost use denote.Signature.{static_lft};
 
-    ghost Value = { List OpenView };
+    ghost Value = { Building View };
 
     ghost coded = { Prim.hlevel (codes, (e.the_row static_lft).coded) };
 
-    ghost view = { λ b. open_views (b.top ∷ reverse b.below.items) b.members.items b.pairs.items };
+    ghost view = { λ b. record {
+      items = open_views (b.top ∷ reverse b.below.items) b.members.items b.pairs.items;
+      refused = b.memory;
+    } };
 
     ghost invariant = { λ b.
         AllBegin (b.top ∷ reverse b.below.items) b.members.items b.pairs.items };
@@ -54,10 +59,12 @@ impl<'a> Model for ViewBuilder<'a> {
 impl<'a> ViewBuilder<'a> {
     /// A builder without any part. Allocates nothing.
     pub fn new(alloc: Global, arena: &'a Bump) -> ViewBuilder<'a>
-        ensures { open_levels result ≡ the_whole [] ∷ [] }
+        ensures open { open_levels result ≡ the_whole [] ∷ [] }
+        ensures refused { result.refused ≡ false }
     {
         ViewBuilder {
             arena,
+            memory: Memory::new(),
             top: Level::Whole(None),
             below: Vec::new(alloc),
             members: Vec::new(alloc),
@@ -65,18 +72,27 @@ impl<'a> ViewBuilder<'a> {
         }
     }
 
+    /// The requests for memory since the builder was made. One of them was refused if a call has returned an error.
+    pub fn memory(&self) -> &Memory
+        ensures { result.now ≡ self.now.refused }
+    {
+        &self.memory
+    }
+
     /// Adds a complete member: one without members, a string that is borrowed, or a view that was
     /// built before.
     #[inline(always)]
     pub fn leaf(&mut self, view: View<'a>) -> Result<(), AllocError>
         requires takes { TakesValue (open_levels self.old) }
-        ensures { OnOk result (open_levels self.new ≡ give (view_value view.entry) (open_levels self.old)) }
+        ensures kept { OnOk result (self.new.refused ≡ self.old.refused) }
+        ensures refused { OnErr result (IsTrue self.new.refused) }
+        ensures given { OnOk result (open_levels self.new ≡ give (view_value view.entry) (open_levels self.old)) }
     {
         match &mut self.top {
             Level::Whole(whole) => *whole = Some(view),
-            Level::Array(_) => push(&mut self.members, view)?,
+            Level::Array(_) => self.memory.push(&mut self.members, view)?,
             Level::Map(_, key) => match key.take() {
-                Some(first) => push(&mut self.pairs, (first, view))?,
+                Some(first) => self.memory.push(&mut self.pairs, (first, view))?,
                 None => *key = Some(view),
             },
             Level::Tag(_, content) => *content = Some(view),
@@ -87,20 +103,24 @@ impl<'a> ViewBuilder<'a> {
     /// Adds a byte string that is copied into the arena.
     pub fn copied_bytes(&mut self, content: &[u8]) -> Result<(), AllocError>
         requires takes { TakesValue (open_levels self.old) }
-        ensures { OnOk result
+        ensures kept { OnOk result (self.new.refused ≡ self.old.refused) }
+        ensures refused { OnErr result (IsTrue self.new.refused) }
+        ensures given { OnOk result
             (open_levels self.new ≡ give (bytes content.now) (open_levels self.old)) }
     {
-        let content = self.arena.try_alloc_slice_copy(content)?;
+        let content = self.memory.copied_into(self.arena, content)?;
         self.leaf(View::Bytes(content))
     }
 
     /// Adds a text that is copied into the arena.
     pub fn copied_text(&mut self, content: &str) -> Result<(), AllocError>
         requires takes { TakesValue (open_levels self.old) }
-        ensures { OnOk result
+        ensures kept { OnOk result (self.new.refused ≡ self.old.refused) }
+        ensures refused { OnErr result (IsTrue self.new.refused) }
+        ensures given { OnOk result
             (open_levels self.new ≡ give (text content.now) (open_levels self.old)) }
     {
-        let content = self.arena.try_alloc_str(content)?;
+        let content = self.memory.text_copied_into(self.arena, content)?;
         self.leaf(View::Text(content))
     }
 
@@ -108,14 +128,16 @@ impl<'a> ViewBuilder<'a> {
     pub fn begin(&mut self, major: Major, number: u64) -> Result<(), AllocError>
         requires kind { IsContainer major }
         requires takes { TakesValue (open_levels self.old) }
-        ensures { OnOk result (open_levels self.new ≡ opened major number ∷ open_levels self.old) }
+        ensures kept { OnOk result (self.new.refused ≡ self.old.refused) }
+        ensures refused { OnErr result (IsTrue self.new.refused) }
+        ensures opened { OnOk result (open_levels self.new ≡ opened major number ∷ open_levels self.old) }
     {
         let inner = match major {
             Major::Array => Level::Array(self.members.len()),
             Major::Map => Level::Map(self.pairs.len(), None),
             _ => Level::Tag(number, None),
         };
-        push_copy(&mut self.below, &self.top)?;
+        self.memory.push_copy(&mut self.below, &self.top)?;
         self.top = inner;
         Ok(())
     }
@@ -123,9 +145,17 @@ impl<'a> ViewBuilder<'a> {
     /// Ends the array, map or tag. Its members move into the arena.
     pub fn end(&mut self) -> Result<(), AllocError>
         requires container { MayEnd (open_levels self.old) }
-        ensures { OnOk result (open_levels self.new ≡ close (open_levels self.old)) }
+        ensures kept { OnOk result (self.new.refused ≡ self.old.refused) }
+        ensures refused { OnErr result (IsTrue self.new.refused) }
+        ensures closed { OnOk result (open_levels self.new ≡ close (open_levels self.old)) }
     {
-        let ended = ended(self.arena, self.top, &mut self.members, &mut self.pairs)?;
+        let ended = ended(
+            &mut self.memory,
+            self.arena,
+            self.top,
+            &mut self.members,
+            &mut self.pairs,
+        )?;
         let Some(outer) = self.below.pop() else {
             unreachable!()
         };
@@ -142,6 +172,7 @@ impl<'a> ViewBuilder<'a> {
     {
         let ViewBuilder {
             arena: _,
+            memory: _,
             top,
             below: _,
             members: _,
@@ -156,6 +187,7 @@ impl<'a> ViewBuilder<'a> {
 
 // The array, map or tag that ends. Its members move from the lists into the arena.
 fn ended<'a>(
+    memory: &mut Memory,
     arena: &'a Bump,
     top: Level<'a>,
     members: &mut Vec<View<'a>>,
@@ -163,6 +195,8 @@ fn ended<'a>(
 ) -> Result<View<'a>, AllocError>
     requires ends { CanEnd (open_value (open_view top members.old.items pairs.old.items)) }
     requires begins { Begins top members.old.items pairs.old.items }
+    ensures kept { OnOk result (memory.new ≡ memory.old) }
+    ensures refused { OnErr result (IsTrue memory.new) }
     ensures value { IfOk result (λ view. view_value view
         ≡ closed (open_value (open_view top.entry members.old.items pairs.old.items))) }
     ensures members { MatchResult result
@@ -174,31 +208,21 @@ fn ended<'a>(
 {
     match top {
         Level::Array(first) => {
-            let kept = arena.try_alloc_slice_copy(&members[first..])?;
+            let kept = memory.copied_into(arena, &members[first..])?;
             members.truncate(first);
             Ok(View::Array(kept))
         }
         Level::Map(first, _) => {
-            let kept = arena.try_alloc_slice_copy(&pairs[first..])?;
+            let kept = memory.copied_into(arena, &pairs[first..])?;
             pairs.truncate(first);
             Ok(View::Map(kept))
         }
         Level::Tag(number, content) => {
-            let content = placed(arena, content)?;
-            Ok(View::Tag(number, content))
+            let Some(content) = content else {
+                unreachable!()
+            };
+            Ok(View::Tag(number, memory.moved_into(arena, content)?))
         }
         Level::Whole(_) => unreachable!(),
-    }
-}
-
-// The view, moved into the arena.
-fn placed<'a>(arena: &'a Bump, view: Option<View<'a>>) -> Result<&'a View<'a>, AllocError>
-    requires { IsSome view }
-    ensures { IfOk result (λ placed. view.entry ≡ Some placed.now) }
-{
-    let Some(view) = view else { unreachable!() };
-    match arena.try_alloc(view) {
-        Ok(placed) => Ok(placed),
-        Err(_) => Err(AllocError),
     }
 }

@@ -1,14 +1,15 @@
 //! Writes canonical bytes.
 
-ghost use Rattle.std.specs.Prelude.{◌<◌, length, take, MatchResult};
+ghost use Rattle.std.specs.Prelude.{◌≡◌, ◌<◌, length, take, IfErr, IsTrue, MatchResult};
 ghost use Rattle.std.specs.Io.KnownBytes.{Appends};
 ghost use Rattle.cbor_head.specs.Canonical.{canonical};
 ghost use Rattle.cbor_item.specs.Sent.{Sends};
 ghost use Rattle.cbor_item.specs.View.{view};
 
-use crate::encoding::encode;
+use crate::encoding::encode_in;
 use crate::tree::Tree;
 use cbor_head::{KeyOrder, Reason, Refusal};
+use cbor_memory::Memory;
 use std::alloc::Global;
 use std::io::Write;
 
@@ -27,7 +28,23 @@ pub fn encode_to<W: Write>(
     ensures { Sends (W.contents writer.old) (W.contents writer.new)
         (canonical order (view tree.now)) result }
 {
-    let bytes = encode(alloc, tree, order)?;
+    encode_to_in(&mut Memory::new(), alloc, tree, order, writer)
+}
+
+/// Writes the canonical bytes as [`encode_to`] does, and records in `memory` whether a request for memory was refused. The
+/// refusal is `Memory` only if one was.
+pub fn encode_to_in<W: Write>(
+    memory: &mut Memory,
+    alloc: Global,
+    tree: &Tree,
+    order: KeyOrder,
+    writer: &mut W,
+) -> Result<u64, Refusal>
+    ensures memory { IfErr result (λ f. f.reason ≡ Reason.Memory → IsTrue memory.new) }
+    ensures sends { Sends (W.contents writer.old) (W.contents writer.new)
+        (canonical order (view tree.now)) result }
+{
+    let bytes = encode_in(memory, alloc, tree, order)?;
     match write_whole(writer, &bytes) {
         Ok(()) => Ok(bytes.len() as u64),
         Err(count) => Err(Refusal::new(Reason::Write, count as u64, 0)),

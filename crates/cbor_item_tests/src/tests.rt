@@ -2,6 +2,7 @@
 
 mod canon_builder;
 mod failed;
+mod memory;
 mod repeats;
 mod reused;
 mod sorted;

@@ -1,19 +1,18 @@
 -- What the annotated bytes written so far are, and what is returned.
-use Rattle.std.proofs.Common.{◌≡◌, ℕ, ◌+◌, ◌-◌, ◌^◌, ◌<◌, ◌≤◌, ◌⊎◌, min, Bool, true, false, cond, codes, List, [], ◌∷◌, ◌++◌, length, take, drop, Option, Some, None, refl, sym, ap, ap₂, ◌∙◌, subst, inl, inr, arith, append_assoc, append-nil, length-append, length-drop, take-append-drop, length-take-le}
+use Rattle.std.proofs.Common.{◌≡◌, ℕ, ◌+◌, ◌-◌, ◌^◌, ◌<◌, ◌≤◌, ◌⊎◌, min, Bool, true, false, cond, codes, List, [], ◌∷◌, ◌++◌, length, take, drop, Option, Some, None, refl, sym, ap, ap₂, ◌∙◌, subst, inl, inr, arith, append_assoc, append-nil, length-append, length-drop, length-take-le}
 use Rattle.std.specs.Io.KnownBytes.{Consumes, Appends, IsAtEnd}
 use Rattle.std.proofs.KnownBytes.{Consumes-nil, Consumes-trans, Appends-nil, Appends-trans}
 use Rattle.std.proofs.lemmas.List.{take-append-le, drop-append-le}
 use Rattle.std.proofs.lemmas.List.{take_at}
 use Rattle.std.specs.Option.{IfSome}
-use lib.Seq.{drop-append_seam}
 use Rattle.cbor_head.specs.Prelude.{Bounds, bounds, Spelling, spell, IsItem, form, refusal, accepted, refused, IsVerdict}
 use Rattle.cbor_head.specs.declared.reason.Reason.TheVariants.{Read, Write, Truncated}
 use Rattle.cbor_head.specs.declared.width.Width.TheVariants.{One, Two, Four, Eight}
 use Rattle.cbor_head.specs.declared.event.EventKind.TheVariants.{Bytes, Text, Chunk, Piece, End}
 use Rattle.cbor_head.specs.declared.{width.Width.Width, reason.Refusal.Refusal, event.Event.Event, event.EventKind.EventKind}
 use Rattle.theory_values.proofs.KindsUnasked.{form_beside}
-use Rattle.theory_automaton.specs.{Trace.Mark, Trace.total, Trace.more_bytes, Event.event, Event.events, Event.cut, Event.joined, Event.joined_with, Event.piece_onto, Event.kind_onto, Event.onto, Event.event_size, Event.AreReported}
-use Rattle.theory_automaton.{specs.Marks.marks_of, specs.Marks.count_of, specs.Open.open_after, proofs.Rows.total-append, proofs.Joining.bytes-total}
+use Rattle.theory_automaton.specs.{Trace.Mark, Trace.total, Trace.more_bytes, Event.event, Event.joined, Event.joined_with, Event.piece_onto, Event.kind_onto, Event.event_size, Event.AreReported}
+use Rattle.theory_automaton.{specs.Marks.marks_of, specs.Open.open_after, proofs.Rows.total-append, proofs.Joining.bytes-total}
 use Rattle.cbor_machine.specs.NextEvent.{machine_call, StandsBetween, IsNextEvent, IsEnd, IsCut, IsTooLong, HasFormError}
 use Rattle.cbor_machine.proofs.Reported.{reported-none, reported-joined, next-more, next-all}
 use Rattle.cbor_machine.{specs.Machine.StandsFor, specs.Machine.before, specs.MachineView.MachineView, proofs.Form.complete-verdict}
@@ -101,8 +100,8 @@ pub record HasAnnotated (start : ℕ) (m : MachineView) (input : List ℕ) (now 
   pub annotated_so_far : Appends old new text
   pub count : written ≡ min (length text) (2 ^ 64 - 1)
 
-pub none-annotated : (start : ℕ) (m : MachineView) (input : List ℕ) (old : Option (List ℕ)) → StandsBetween m [] [] → HasAnnotated start m input (Some input) old old 0 no_string
-none-annotated start m input old s = record {
+pub none-annotated : (start : ℕ) (m : MachineView) (input : List ℕ) (old : Option (List ℕ)) → StandsBetween m [] [] → HasAnnotated start m input (Some (drop m.taken input)) old old 0 no_string
+none-annotated start m input old s = subst (λ (n : ℕ). HasAnnotated start m input (Some (drop n input)) old old 0 no_string) (sym s.stands.taken) (record {
   t = [];
   marks = [];
   reported = [];
@@ -114,7 +113,7 @@ none-annotated start m input old s = record {
   held = omega arith;
   annotated_so_far = Appends-nil old;
   count = refl;
-}
+})
 
 -- what is written for an event, and the context after it
 abbrev pub level_now : MachineView → Context → Event → ℕ
@@ -183,6 +182,10 @@ short-head w _ size is = let few = few-more w in omega (arith, few, is)
 consumed-within : (input : List ℕ) (to : Option (List ℕ)) (bs : List ℕ) → Consumes (Some input) to bs → length bs ≤ length input
 consumed-within input None bs h = absurd h
 consumed-within input (Some ys) bs h = omega (arith, ap length h, length-append bs ys)
+
+-- no byte after the input was consumed
+pub taken-fits : (start : ℕ) (m : MachineView) (input : List ℕ) (now old new : Option (List ℕ)) (written : ℕ) (context : Context) → HasAnnotated start m input now old new written context → m.taken ≤ length input
+taken-fits start m input now old new written context h = let within = consumed-within input now h.t h.taken in omega (arith, within, h.between.stands.taken)
 
 -- where the bytes of the event are in the input
 pub record EventStands (start : ℕ) (new : MachineView) (input : List ℕ) (context : Context) (e : Event) (bytes : List ℕ) : Type 0 where

@@ -1,3 +1,4 @@
 pub mod Annotating
 pub mod Lines
 pub mod Listed
+pub mod Slices

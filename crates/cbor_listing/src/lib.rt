@@ -20,6 +20,7 @@ mod event_line;
 mod event_listing;
 mod event_meaning;
 mod line;
+mod next_event;
 
 pub use annotated_listing::annotated;
 pub use event_listing::{listing, listing_from};

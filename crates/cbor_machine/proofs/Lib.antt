@@ -15,3 +15,4 @@ pub mod Starting
 pub mod Reported
 pub mod Wanting
 pub mod WholeHeads
+pub mod WholeItems

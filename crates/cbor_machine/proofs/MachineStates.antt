@@ -33,7 +33,7 @@ done-position : (position : Position) (fs : List Frame) → done ≡ state_of po
 done-position Done fs h = refl
 done-position _ fs h = absurd (cc)
 
-settled-clear : (position : Position) (fs : List Frame) → IsSettled fs position → IsClear (state_of position fs)
+pub settled-clear : (position : Position) (fs : List Frame) → IsSettled fs position → IsClear (state_of position fs)
 settled-clear (Head chunk kind w left argument) fs h = absurd h
 settled-clear SimpleNumber fs h = absurd h
 settled-clear _ fs h = tt

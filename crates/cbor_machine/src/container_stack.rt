@@ -204,20 +204,6 @@ impl ContainerStack {
         ensures fewer { length self.new ≤ length self.old }
         ensures settled { IsSettled self.new (position_after result) }
     {
-        if advance(&mut self.top) {
-            return false;
-        }
-        self.complete_levels()
-    }
-
-    // Completes the containers that end with the item, from the innermost out.
-    #[inline(never)]
-    fn complete_levels(&mut self) -> bool
-        ensures state { state_of (position_after result) self.new
-            ≡ automaton.close (frames_of self.old) }
-        ensures fewer { length self.new ≤ length self.old }
-        ensures settled { IsSettled self.new (position_after result) }
-    {
         'levels: loop {
             if advance(&mut self.top) {
                 return false;

@@ -18,6 +18,7 @@ ghost use Rattle.cbor_machine.specs.Steps.{IsStep};
 
 mod codes;
 mod saved;
+mod whole_item;
 
 use crate::container_stack::ContainerStack;
 use crate::feed::{FeedResult, walk, walk_whole};

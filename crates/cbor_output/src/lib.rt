@@ -1,10 +1,9 @@
 //! The output buffer of the builder, in which the pairs of a map are put in order.
 //!
-//! `cbor_builder` calls it, and `cbor_item` its lists. No public contract of the crates above mentions it.
+//! `cbor_builder` calls it. No public contract of the crates above mentions it.
 #![tactic(auto)]
 
 mod copies;
 mod head;
 pub mod output_buffer;
-pub mod reserve;
 pub mod span;

@@ -1,13 +1,14 @@
 //! The output: one buffer.
 
 ghost use Rattle.std.specs.Prelude.{◌≡◌, ◌≢◌, ◌≤◌, ◌<◌, ◌+◌, ◌++◌, ◌^◌, ◌∷◌, [], length, take, drop};
-ghost use Rattle.std.specs.Prelude.{slice_range, vec_len, OnOk, OnErr};
+ghost use Rattle.std.specs.Prelude.{slice_range, vec_len, IsTrue, OnOk, OnErr};
 ghost use Rattle.cbor_head.specs.Head.{shortest_head, IsSimple, major_number};
 ghost use Rattle.cbor_head.specs.declared.major.Major.TheVariants.{Simple};
 
 use crate::copies::{copy, copy_behind, copy_down};
 use crate::head::{head_bytes, put_head};
 use cbor_head::Major;
+use cbor_memory::Memory;
 use std::alloc::{AllocError, Global};
 use std::marker::Model;
 
@@ -92,21 +93,25 @@ impl OutputBuffer {
 
     // Appends the shortest head.
     #[inline(always)]
-    pub fn head(&mut self, major: Major, n: u64) -> Result<(), AllocError>
+    pub fn head(&mut self, memory: &mut Memory, major: Major, n: u64) -> Result<(), AllocError>
         requires { major ≡ Simple → IsSimple n }
-        ensures { OnOk result (self.new ≡ self.old ++ shortest_head major n) }
+        ensures kept { OnOk result (memory.new ≡ memory.old) }
+        ensures refused { OnErr result (IsTrue memory.new) }
+        ensures appended { OnOk result (self.new ≡ self.old ++ shortest_head major n) }
     {
-        make_space(&mut self.buf, self.len, HEAD)?;
+        make_space(memory, &mut self.buf, self.len, HEAD)?;
         self.len = put_head(&mut self.buf, self.len, major, n);
         Ok(())
     }
 
     // Appends these bytes.
     #[inline(always)]
-    pub(crate) fn extend(&mut self, bytes: &[u8]) -> Result<(), AllocError>
-        ensures { OnOk result (self.new ≡ self.old ++ bytes.now) }
+    pub(crate) fn extend(&mut self, memory: &mut Memory, bytes: &[u8]) -> Result<(), AllocError>
+        ensures kept { OnOk result (memory.new ≡ memory.old) }
+        ensures refused { OnErr result (IsTrue memory.new) }
+        ensures appended { OnOk result (self.new ≡ self.old ++ bytes.now) }
     {
-        make_space(&mut self.buf, self.len, bytes.len())?;
+        make_space(memory, &mut self.buf, self.len, bytes.len())?;
         let end = self.len + bytes.len();
         copy(bytes, &mut self.buf[self.len..end]);
         self.len = end;
@@ -116,66 +121,95 @@ impl OutputBuffer {
     // Appends the first of these bytes. Up to 32 are copied as one piece of 32, if the slice has 32
     // bytes.
     #[inline(always)]
-    pub fn extend_prefix(&mut self, prefix: &[u8], count: usize) -> Result<(), AllocError>
+    pub fn extend_prefix(
+        &mut self,
+        memory: &mut Memory,
+        prefix: &[u8],
+        count: usize,
+    ) -> Result<(), AllocError>
         requires { count ≤ length prefix.now }
-        ensures { OnOk result (self.new ≡ self.old ++ take count prefix.now) }
+        ensures kept { OnOk result (memory.new ≡ memory.old) }
+        ensures refused { OnErr result (IsTrue memory.new) }
+        ensures appended { OnOk result (self.new ≡ self.old ++ take count prefix.now) }
     {
         if count <= BLOCK {
             if let Some(block) = prefix.first_chunk::<BLOCK>() {
-                return self.extend_block(block, count);
+                return self.extend_block(memory, block, count);
             }
         }
-        self.extend(&prefix[..count])
+        self.extend(memory, &prefix[..count])
     }
 
     // Appends the shortest head for a string of this length, and the first bytes of the slice. Few
     // bytes need one check for space.
     #[inline(always)]
-    pub fn string(&mut self, major: Major, prefix: &[u8], count: usize) -> Result<(), AllocError>
+    pub fn string(
+        &mut self,
+        memory: &mut Memory,
+        major: Major,
+        prefix: &[u8],
+        count: usize,
+    ) -> Result<(), AllocError>
         requires within { count ≤ length prefix.now }
         requires kind { major ≢ Simple }
-        ensures { OnOk result
+        ensures kept { OnOk result (memory.new ≡ memory.old) }
+        ensures refused { OnErr result (IsTrue memory.new) }
+        ensures appended { OnOk result
             (self.new ≡ self.old ++ (shortest_head major count ++ take count prefix.now)) }
     {
         if count <= BLOCK {
             if let Some(block) = prefix.first_chunk::<BLOCK>() {
-                make_space(&mut self.buf, self.len, HEAD + BLOCK)?;
+                make_space(memory, &mut self.buf, self.len, HEAD + BLOCK)?;
                 let at = put_head(&mut self.buf, self.len, major, count as u64);
                 self.len = put_block(&mut self.buf, at, block, count);
                 return Ok(());
             }
         }
-        self.head(major, count as u64)?;
-        self.extend(&prefix[..count])
+        self.head(memory, major, count as u64)?;
+        self.extend(memory, &prefix[..count])
     }
 
     // Appends a copy of the bytes from `start` to `end`. Up to 32 bytes are copied as one piece of
     // 32, if the space after them allows it.
     #[inline(always)]
-    pub(crate) fn extend_within(&mut self, start: usize, end: usize) -> Result<(), AllocError>
+    pub(crate) fn extend_within(
+        &mut self,
+        memory: &mut Memory,
+        start: usize,
+        end: usize,
+    ) -> Result<(), AllocError>
         requires begins { start ≤ end }
         requires ends { end ≤ length self.old }
-        ensures { OnOk result (self.new ≡ self.old ++ slice_range self.old start end) }
+        ensures kept { OnOk result (memory.new ≡ memory.old) }
+        ensures refused { OnErr result (IsTrue memory.new) }
+        ensures appended { OnOk result (self.new ≡ self.old ++ slice_range self.old start end) }
     {
         let count = end - start;
         if count <= BLOCK {
             if let Some(block) = self.buf[start..].first_chunk::<BLOCK>() {
                 let block = *block;
-                return self.extend_block(&block, count);
+                return self.extend_block(memory, &block, count);
             }
         }
-        make_space(&mut self.buf, self.len, count)?;
+        make_space(memory, &mut self.buf, self.len, count)?;
         self.len = copy_behind(&mut self.buf, self.len, start, end);
         Ok(())
     }
 
     // Appends the first of these bytes.
     #[inline(always)]
-    fn extend_block(&mut self, block: &[u8; BLOCK], count: usize) -> Result<(), AllocError>
+    fn extend_block(
+        &mut self,
+        memory: &mut Memory,
+        block: &[u8; BLOCK],
+        count: usize,
+    ) -> Result<(), AllocError>
         requires { count ≤ 32 }
-        ensures { OnOk result (self.new ≡ self.old ++ take count block.now) }
+        ensures kept { OnOk result (memory.new ≡ memory.old) }
+        ensures refused { OnErr result (IsTrue memory.new) }
+        ensures appended { OnOk result (self.new ≡ self.old ++ take count block.now) }
     {
-        make_space(&mut self.buf, self.len, BLOCK)?;
+        make_space(memory, &mut self.buf, self.len, BLOCK)?;
         self.len = put_block(&mut self.buf, self.len, block, count);
         Ok(())
     }
@@ -201,6 +235,7 @@ impl OutputBuffer {
     #[inline(always)]
     pub fn fill_head(
         &mut self,
+        memory: &mut Memory,
         from: usize,
         start: usize,
         major: Major,
@@ -209,20 +244,23 @@ impl OutputBuffer {
         requires ends { start ≤ length self.old }
         requires begins { from ≤ start }
         requires simple { major ≡ Simple → IsSimple n }
-        ensures { OnOk result
+        ensures kept { OnOk result (memory.new ≡ memory.old) }
+        ensures refused { OnErr result (IsTrue memory.new) }
+        ensures filled { OnOk result
             (self.new ≡ take from self.old ++ (shortest_head major n ++ drop start self.old)) }
     {
         if n < 24 && start - from == 1 {
             self.buf[from] = 32 * major.number() + n as u8;
             return Ok(());
         }
-        self.fill_long(from, start, major, n)
+        self.fill_long(memory, from, start, major, n)
     }
 
     // Fills in a head of any length. If it differs from the space left for it, the bytes after it are moved.
     #[inline(never)]
     fn fill_long(
         &mut self,
+        memory: &mut Memory,
         from: usize,
         start: usize,
         major: Major,
@@ -231,7 +269,9 @@ impl OutputBuffer {
         requires ends { start ≤ length self.old }
         requires begins { from ≤ start }
         requires simple { major ≡ Simple → IsSimple n }
-        ensures { OnOk result
+        ensures kept { OnOk result (memory.new ≡ memory.old) }
+        ensures refused { OnErr result (IsTrue memory.new) }
+        ensures filled { OnOk result
             (self.new ≡ take from self.old ++ (shortest_head major n ++ drop start self.old)) }
     {
         let (head, count) = head_bytes(major, n);
@@ -239,7 +279,7 @@ impl OutputBuffer {
             self.buf[from..start].copy_from_slice(&head[..count]);
             return Ok(());
         }
-        make_space(&mut self.buf, self.len, HEAD)?;
+        make_space(memory, &mut self.buf, self.len, HEAD)?;
         self.buf.copy_within(start..self.len, from + count);
         self.buf[from..from + count].copy_from_slice(&head[..count]);
         self.len = from + count + (self.len - start);
@@ -263,16 +303,23 @@ fn put_block(buf: &mut Vec<u8>, len: usize, block: &[u8; BLOCK], count: usize) -
 // Makes space for n bytes after the first `len`, and for the slack. The first `len` bytes are
 // unchanged.
 #[inline(always)]
-fn make_space(buf: &mut Vec<u8>, len: usize, n: usize) -> Result<(), AllocError>
+fn make_space(
+    memory: &mut Memory,
+    buf: &mut Vec<u8>,
+    len: usize,
+    n: usize,
+) -> Result<(), AllocError>
     requires within { len ≤ vec_len buf.old }
     requires few { n < 2 ^ 63 }
+    ensures kept { OnOk result (memory.new ≡ memory.old) }
+    ensures refused { OnErr result (IsTrue memory.new) }
     ensures needed { OnErr result (vec_len buf.old < len + n + 40) }
     ensures space { OnOk result (len + n + 40 ≤ vec_len buf.new) }
     ensures within { len ≤ vec_len buf.new }
     ensures same { take len buf.new.items ≡ take len buf.old.items }
 {
     if buf.len() - len < n + SLACK {
-        return grow(buf, len, n);
+        return grow(memory, buf, len, n);
     }
     Ok(())
 }
@@ -281,9 +328,11 @@ fn make_space(buf: &mut Vec<u8>, len: usize, n: usize) -> Result<(), AllocError>
 // all copies together is proportional to what is written in the end.
 #[cold]
 #[inline(never)]
-fn grow(buf: &mut Vec<u8>, len: usize, n: usize) -> Result<(), AllocError>
+fn grow(memory: &mut Memory, buf: &mut Vec<u8>, len: usize, n: usize) -> Result<(), AllocError>
     requires within { len ≤ vec_len buf.old }
     requires few { n < 2 ^ 63 }
+    ensures kept { OnOk result (memory.new ≡ memory.old) }
+    ensures refused { OnErr result (IsTrue memory.new) }
     ensures space { OnOk result (len + n + 40 ≤ vec_len buf.new) }
     ensures within { len ≤ vec_len buf.new }
     ensures same { take len buf.new.items ≡ take len buf.old.items }
@@ -291,12 +340,12 @@ fn grow(buf: &mut Vec<u8>, len: usize, n: usize) -> Result<(), AllocError>
     let size = buf.len();
     if size == 0 {
         // Allocated and filled in one step.
-        *buf = Vec::from_elem(*buf.allocator(), 0, n.max(FIRST) + SLACK)?;
+        *buf = memory.zeros(*buf.allocator(), n.max(FIRST) + SLACK)?;
         return Ok(());
     }
     let least = n.max(NEXT) + SLACK;
     if buf.capacity() - size < least {
-        buf.reserve_exact(least.max(size / 2))?;
+        memory.reserve_exact(buf, least.max(size / 2))?;
     }
     let soon = n.max(STEP) + SLACK;
     buf.resize(size + soon.min(buf.capacity() - size), 0)

@@ -1,23 +1,19 @@
 -- What begins where an item is expected, from its first byte and its argument.
 use Rattle.std.proofs.Common.{◌≡◌, ℕ, suc, ◌+◌, ◌-◌, ◌^◌, ◌%◌, ◌<◌, ◌≤◌, ◌⊎◌, Bool, true, List, ◌∷◌, ◌++◌, length, take, drop, get_or, refl, sym, ap, ◌∙◌, subst, inl, inr, arith, IsUtf8}
 use Rattle.std.proofs.lemmas.Bool.{cases_lt}
-use Rattle.cbor_head.specs.Prelude.{Holds, shortest, shortest_head, with_argument, AreBytes}
-use Rattle.cbor_head.specs.declared.{major.Major.TheVariants.Array, major.Major.TheVariants.Map, width.Width.Width}
-use Rattle.cbor_head.specs.{declared.width.Width.TheVariants.Eight, declared.width.Width.TheVariants.Indefinite, Argument.IsArgument, InitialByte.MayBegin}
+use Rattle.cbor_head.specs.Prelude.{shortest, shortest_head, with_argument, AreBytes}
+use Rattle.cbor_head.specs.{declared.major.Major.TheVariants.Array, declared.major.Major.TheVariants.Map, declared.width.Width.Width, Argument.IsArgument}
+use Rattle.cbor_head.specs.InitialByte.{MayBegin}
+use Rattle.theory_values.proofs.Counts.{holds_fits}
 use Rattle.cbor_parser.proofs.ShortLeaves.{leaf-number, leaf-value, leaf-empty, leaf-bytes, leaf-text}
 use Rattle.cbor_parser.{specs.inner.Leaves.IsShortest, specs.inner.Leaves.IsLeaf, proofs.ShortHeads.rest-is, specs.inner.Items.OpensHere}
 use Rattle.cbor_parser.specs.declared.container.Expected.TheVariants.{Item, Key}
 
 -- ---- arguments
 
-below : (w : Width) (n : ℕ) → Holds w n → n < 2 ^ 64
-below Eight n h = h
-below Indefinite n h = absurd h
-below _ n h = omega (arith, h)
-
 module _ (low : ℕ) (behind : List ℕ) (w : Width) (n : ℕ) (rest : List ℕ) (a : IsArgument low behind w n rest) where
   pub shortest_argument : w ≡ shortest n → IsShortest low behind n rest
-  shortest_argument e = record { spelled = λ first. a.spelled first ∙ ap (λ (v : Width). with_argument v first n ++ rest) e; range = below w n a.holds }
+  shortest_argument e = record { spelled = λ first. a.spelled first ∙ ap (λ (v : Width). with_argument v first n ++ rest) e; range = holds_fits w n a.holds }
 
 -- ---- items that end with their head, and heads
 

@@ -5,7 +5,7 @@ use Rattle.cbor_head.specs.Prelude.{Spelling, array, a_map, spell}
 use Rattle.cbor_builder.specs.declared.repeat.Repeat.{Repeat}
 use Rattle.theory_verdicts.specs.Levels.{Level, some_member, some_key, bytes_before, ParseState}
 use Rattle.theory_verdicts.proofs.CleanParts.{clean-within}
-use Rattle.cbor_parser.specs.Sink.{Fills, StandsFull, Reported, takes_key, is_map, IsEndedAs, IsReportedFull, IsContainerFull, Ends, Repeats}
+use Rattle.cbor_parser.specs.Sink.{Fills, StandsFull, Reported, takes_key, is_map, IsEndedAs, IsReportedFull, IsContainerFull, Ends, IsKeyless, Repeats}
 use Rattle.cbor_parser.specs.inner.Parser.{HasEnded, IsFull, IsToEnd, IsCellFull}
 use Rattle.cbor_parser.specs.{Expected.pairs, inner.OpenContainer.Cell}
 
@@ -17,7 +17,7 @@ ended-kind l s e = absurd e
 
 module _ (S : Type 0) (stands : S → S → ParseState → Type 0) (trusts : Bool) (start : S) (d : ℕ) (input : List ℕ) where
   -- of its item something else is known
-  known-as : (P Q : List Level → Spelling → Type 0) (cs : List Cell) (rest : List ℕ) → (s : IsFull S stands trusts P d input cs rest) → Q s.ls s.item → IsFull S stands trusts Q d input cs rest
+  pub known-as : (P Q : List Level → Spelling → Type 0) (cs : List Cell) (rest : List ℕ) → (s : IsFull S stands trusts P d input cs rest) → Q s.ls s.item → IsFull S stands trusts Q d input cs rest
   known-as P Q cs rest s given =
       record { ls = s.ls; item = s.item; levels = s.levels; spelled = s.spelled; within = s.within; cells = s.cells; given = given; bytes = s.bytes; small = s.small; known = s.known }
 
@@ -39,6 +39,10 @@ module _ (S : Type 0) (stands : S → S → ParseState → Type 0) (trusts : Boo
   pub has-ended : (t : Bool) (cs : List Cell) (g new : S) (rest : List ℕ) → IsToEnd S stands trusts t start d input cs g rest → Ends S stands trusts t g new → HasEnded S stands trusts start d input cs new rest
   has-ended t cs g new rest s ends = known-as _ _ cs rest s (ends start d s.ls s.item (fills-of _ cs rest s) s.given)
 
+  -- one without keys ends
+  pub keyless-ends : (t : Bool) (cs : List Cell) (g : S) (rest : List ℕ) (repeat : Repeat) → IsFull S stands trusts (λ ls s. StandsFull S (Reported S stands t) d start g ls s × IsKeyless s) d input cs rest → Repeats S stands trusts t g repeat → ⊥
+  keyless-ends t cs g rest repeat s repeats = (repeats start d s.ls s.item (fills-of _ cs rest s) s.given.0).1 s.given.1
+
   -- ---- the one of this cell, within those around it
 
   module _ (t : Bool) (c : Cell) (cs : List Cell) (g : S) (rest : List ℕ) (reported : t ≡ pairs c.expected) (s : IsCellFull S stands trusts (StandsFull S stands d start g) d input c cs rest) where
@@ -59,4 +63,4 @@ module _ (S : Type 0) (stands : S → S → ParseState → Type 0) (trusts : Boo
 
     -- it does not end
     pub full-repeats : (repeat : Repeat) → Repeats S stands trusts t g repeat → IsCellFull S stands trusts (λ ls item. IsReportedFull ls item repeat) d input c cs rest
-    full-repeats repeat repeats = known-as _ _ cs rest s (repeats start d s.ls s.item (fills-of _ cs rest s) stands-reported, s.given.1)
+    full-repeats repeat repeats = known-as _ _ cs rest s ((repeats start d s.ls s.item (fills-of _ cs rest s) stands-reported).0, s.given.1)

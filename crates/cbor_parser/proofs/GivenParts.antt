@@ -7,8 +7,8 @@ use Rattle.theory_values.proofs.{Accepted.accepts_exactly, ReadLaws.length_spell
 use Rattle.theory_verdicts.specs.Levels.{IsTaken, Level, a_member, some_member, some_key, level_bytes, bytes_before, ParseState, item_expected, settle}
 use Rattle.theory_verdicts.{specs.Kinds.KeepsToKinds, proofs.Members.closes, proofs.Decisions.whole_beside, proofs.Heads.open_or, proofs.Items.is-definite}
 use Rattle.theory_verdicts.proofs.{Levels.clean-anywhere, Levels.no-count, Loops.array_bytes-whole, Loops.map_bytes-whole}
-use Rattle.cbor_parser.specs.Sink.{takes_key, key_expected, Completes, IsItemExpected, Gives, Opens, IsKnownValid, IsGivenPrefix}
-use Rattle.cbor_parser.specs.inner.Parser.{BeginsTaken, IsExpected, HasEnded, IsFull, IsToEnd, IsBuilt, IsExpectedFor}
+use Rattle.cbor_parser.specs.Sink.{takes_key, key_expected, Completes, IsItemExpected, Gives, Opens, Reported, StandsFull, IsKeyless, IsKnownValid, IsGivenPrefix}
+use Rattle.cbor_parser.specs.inner.Parser.{BeginsTaken, IsExpected, HasEnded, IsFull, IsBuilt, IsExpectedFor}
 use Rattle.cbor_parser.specs.inner.OpenContainer.{counted, opener, behind_head, cell_of, cells_of}
 use Rattle.cbor_parser.specs.inner.Parts.{IsHead, IsOpener, Counts}
 use Rattle.cbor_parser.specs.inner.OpenContainer.{Cell}
@@ -135,19 +135,19 @@ module _ (S : Type 0) (stands : S → S → ParseState → Type 0) (trusts : Boo
 
       -- one that is empty
       pub empty-ends : (m : Major) (expected : Expected) (n : ℕ) (behind : List ℕ) (new : S) (t : Bool) → t ≡ key_expected s.ls → length s.ls < d → Counts m expected → n ≡ 0 → IsHead m n rest behind → Opens S stands t m 0 g new
-          → (length behind < length rest) × IsToEnd S stands trusts (awaits expected) start d input cs new behind
+          → (length behind < length rest) × IsFull S stands trusts (λ ls s. StandsFull S (Reported S stands (awaits expected)) d start new ls s × IsKeyless s) d input cs behind
       empty-ends majors.Array Item n behind new t reported space k none h opens =
           let w = h.width in
           let holds : Holds w 0 = subst (Holds w) none h.holds in
           let whole : spell (array w no_spellings) ≡ head majors.Array w n = array_bytes-whole w 0 no_spellings (closes w (is-definite w 0 holds)) refl ∙ append-nil (head majors.Array w 0) ∙ ap (head majors.Array w) (sym none) in
           taken-so _ (array w no_spellings) behind
           (record { spelled = (open_or w 0 holds, tt); within = omega (arith, space); clean = λ at c x. elim x [ inl y ↦ no-count at majors.Array w 0 c y | inr y ↦ y ] })
-          (h.is ∙ ap (λ (x : List ℕ). x ++ behind) (sym whole)) (inr (some_member no_spellings, refl, (space, tt, s.levels), (opens start s.ls (some_member no_spellings) (s.given, reported) (inr refl), refl)))
+          (h.is ∙ ap (λ (x : List ℕ). x ++ behind) (sym whole)) (inr (some_member no_spellings, refl, (space, tt, s.levels), (opens start s.ls (some_member no_spellings) (s.given, reported) (inr refl), refl)), tt)
       empty-ends majors.Map Key n behind new t reported space k none h opens =
           let w = h.width in
           let holds : Holds w 0 = subst (Holds w) none h.holds in
           let whole : spell (a_map w no_entries) ≡ head majors.Map w n = map_bytes-whole w 0 no_entries (closes w (is-definite w 0 holds)) refl ∙ append-nil (head majors.Map w 0) ∙ ap (head majors.Map w) (sym none) in
           taken-so _ (a_map w no_entries) behind
           (record { spelled = (open_or w 0 holds, tt); within = omega (arith, space); clean = λ at c x. elim x [ inl y ↦ no-count at majors.Map w 0 c y | inr y ↦ y ] })
-          (h.is ∙ ap (λ (x : List ℕ). x ++ behind) (sym whole)) (inr (some_key no_entries, refl, (space, tt, s.levels), (opens start s.ls (some_key no_entries) (s.given, reported) (inr refl), refl)))
+          (h.is ∙ ap (λ (x : List ℕ). x ++ behind) (sym whole)) (inr (some_key no_entries, refl, (space, tt, s.levels), (opens start s.ls (some_key no_entries) (s.given, reported) (inr refl), refl)), tt)
       empty-ends _ _ n behind new t reported space k none h opens = absurd k

@@ -8,7 +8,7 @@ use Rattle.theory_verdicts.{specs.Kinds.KeepsToKinds, specs.Stop.IsStopped, spec
 use Rattle.cbor_parser.proofs.LevelPaths.{paths_of, paths_length, paths_bytes, paths_clean, path_expected, breaks_path}
 use Rattle.cbor_parser.specs.{inner.Parser.IsExpected, inner.Parser.HasCome, Stack.around, Stack.open_levels, declared.container.Expected.Expected}
 use Rattle.cbor_parser.specs.declared.{container.Expected.TheVariants.Key, container.Expected.TheVariants.Value, stack.Stack.Stack}
-use Rattle.cbor_parser.{proofs.Stacks.open_levels_count, specs.Sink.FindsNoRepeat, specs.inner.Kept.KeepsBefore, specs.inner.Faults.IsFault}
+use Rattle.cbor_parser.{proofs.Stacks.open_levels_count, specs.Sink.AreKeysDistinct, specs.inner.Kept.KeepsBefore, specs.inner.Faults.IsFault}
 use Rattle.cbor_parser.{specs.declared.item_start.Here.Here, proofs.GivenParts.cells-count, specs.inner.OpenContainer.Cell}
 
 -- kinds are judged, and a key is expected
@@ -23,7 +23,7 @@ module _ (S : Type 0) (stands : S → S → ParseState → Type 0) (trusts : Boo
 
   module _ (limits : Bounds) (bytes input : List ℕ) (within : input ≡ take limits.bytes bytes) (are : AreBytes input) (k : Stack Cell) (cells : List Cell) (low : k.height ≤ length cells) (g : S) (rest : List ℕ) (come : HasCome S stands trusts holds start limits.depth input (open_levels Cell k cells) g rest) (kept : KeepsBefore limits.depth limits.keys input rest) where
     -- what is found at the offset of the rest, if no open map has two keys that are the same
-    pub stopped-there : (at : ℕ) (here : Here) (f answer : Refusal) → FindsNoRepeat S stands holds g → at ≡ length input - length rest → here.space ≡ nat_lt k.height limits.depth → IsAsked limits k.top.expected here.is_key
+    pub stopped-there : (at : ℕ) (here : Here) (f answer : Refusal) → AreKeysDistinct come.ls → at ≡ length input - length rest → here.space ≡ nat_lt k.height limits.depth → IsAsked limits k.top.expected here.is_key
         → (k.top.is_indefinite ≡ true → k.top.expected ≢ Value → here.may_break ≡ true) → IsFault plain rest at here f → IsAnswered limits.bytes input f answer → IsVerdict limits plain bytes (refused answer)
     stopped-there at here f answer apart there roomy asked breaks fault answered =
         let ls = come.ls in
@@ -31,7 +31,7 @@ module _ (S : Type 0) (stands : S → S → ParseState → Type 0) (trusts : Boo
         let same = paths_bytes ls in
         let size = length-append (bytes_before ls) rest in
         let short : length (bytes_before ls) < 2 ^ 63 = omega (arith, come.small, ap length come.bytes, size) in
-        let (order, different) = apart start ls come.given in
+        let (order, different) = apart in
         let whole : path.bytes_before ps ++ rest ≡ input = ap (λ (x : List ℕ). x ++ rest) same ∙ sym come.bytes in
         let count = paths_length ls in
         let height : length ls ≡ k.height = omega (arith, open_levels_count Cell k cells low, ap length come.cells, cells-count (length input) ls) in

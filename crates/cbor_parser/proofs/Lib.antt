@@ -1,5 +1,6 @@
 pub mod AnyItem
 pub mod AnyRefusals
+pub mod Beginnings
 pub mod CanonicalStops
 pub mod CellSteps
 pub mod ChunkStops
@@ -13,6 +14,7 @@ pub mod GivenKinds
 pub mod GivenParts
 pub mod GivenStops
 pub mod KeyOrder
+pub mod KnownKeys
 pub mod KnownTexts
 pub mod LevelPaths
 pub mod ParserRules

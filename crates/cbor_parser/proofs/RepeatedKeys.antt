@@ -1,34 +1,20 @@
 -- The items that are skipped before a key that is reported, and its refusal.
 use Rattle.std.proofs.Common.{◌≡◌, ℕ, suc, ◌+◌, ◌-◌, ◌*◌, ◌^◌, ◌<◌, ◌≤◌, List, ◌∷◌, ◌++◌, length, take, drop, refl, sym, ap, ap₂, ◌∙◌, subst, arith, append_assoc, append-nil, length-append, take_all}
 use Rattle.std.proofs.Math.Seq.{drop-append-add}
-use Rattle.cbor_head.specs.Prelude.{plain, Bounds, Spelling, Spellings, SpelledEntries, no_spellings, a_spelling, no_entries, entry, spell, spell_all, spell_entries, spellings_count, entries_count, IsVerdict, refused, refusal}
+use Rattle.cbor_head.specs.Prelude.{plain, Bounds, Spelling, SpelledEntries, no_spellings, a_spelling, no_entries, entry, spell, spell_entries, entries_count, IsVerdict, refused, refusal}
 use Rattle.cbor_head.specs.declared.reason.{Reason.TheVariants.RepeatedKey, Refusal.Refusal}
 use Rattle.theory_values.proofs.ReadLaws.{length_spell}
+use Rattle.theory_automaton.proofs.Members.{members, members-count, members-bytes}
 use Rattle.theory_verdicts.specs.Levels.{IsTaken, AreTaken, ArePairsTaken, bytes_before}
 use Rattle.cbor_parser.specs.inner.{OpenContainer.opener, Repeated.IsKeyReported, Skip.StandAtStart}
 use Rattle.cbor_parser.proofs.{Repeats.pairs_taken, Repeats.opened, ReportedMaps.reported_verdict}
 
 -- ---- pairs, as items
 
-items_of : SpelledEntries → Spellings
-items_of no_entries = no_spellings
-items_of (entry k v es) = a_spelling k (a_spelling v (items_of es))
-
-items_count : (es : SpelledEntries) → spellings_count (items_of es) ≡ 2 * entries_count es
-unfolding items_of
-items_count no_entries = refl
-items_count (entry k v es) = omega (arith, items_count es)
-
-items_bytes : (es : SpelledEntries) → spell_all (items_of es) ≡ spell_entries es
-unfolding items_of
-items_bytes no_entries = refl
-items_bytes (entry k v es) = ap (λ (x : List ℕ). spell k ++ (spell v ++ x)) (items_bytes es) ∙ sym (append_assoc (spell k) (spell v) (spell_entries es))
-
 deeper : (d e : ℕ) (s : Spelling) → d ≤ e → IsTaken d s → IsTaken e s
 deeper d e s l h = let low = h.within in record { spelled = h.spelled; within = omega (arith, low, l); clean = h.clean }
 
-items_taken : (d e : ℕ) (es : SpelledEntries) → d ≤ e → ArePairsTaken d es → AreTaken e (items_of es)
-unfolding items_of
+items_taken : (d e : ℕ) (es : SpelledEntries) → d ≤ e → ArePairsTaken d es → AreTaken e (members es)
 items_taken d e no_entries l h = tt
 items_taken d e (entry k v es) l h = (deeper d e k l h.0, (deeper d e v l h.1, items_taken d e es l h.2))
 
@@ -69,14 +55,17 @@ module _ (limits : Bounds) (input : List ℕ) (behind pair : ℕ) (h : IsKeyRepo
   content_short =
       omega (arith, h.small, ap length content_there, ap length split_there, length-append head_before content)
 
+  pub content_shorter : length (take (length input - (length input - behind)) (drop (length input - behind) input)) ≤ length input
+  content_shorter = omega (arith, ap length content_there, ap length split_there, length-append head_before content)
+
   pub pairs_at_start : (d : ℕ) → d ≡ limits.depth → StandAtStart d (take (length input - (length input - behind)) (drop (length input - behind) input)) (2 * pair) (spell h.key ++ h.more)
   pairs_at_start d e =
       record {
-        items = items_of h.es;
+        items = members h.es;
         taken = items_taken (limits.depth - suc (length h.outer)) (d - 1) h.es (omega (arith, e)) (pairs_taken (limits.depth - suc (length h.outer)) h.level h.es h.is_behind h.levels.1);
         space = omega (arith, e, h.levels.0);
-        count_is = items_count h.es ∙ ap (λ (n : ℕ). 2 * n) h.count;
-        bytes_are = content_there ∙ ap (λ (x : List ℕ). x ++ (spell h.key ++ h.more)) (sym (items_bytes h.es));
+        count_is = omega (arith, members-count h.es, h.count);
+        bytes_are = content_there ∙ ap (λ (x : List ℕ). x ++ (spell h.key ++ h.more)) (sym (members-bytes h.es));
       }
 
   pub key_at_start : (d : ℕ) (found : List ℕ) → d ≡ limits.depth → found ≡ spell h.key ++ h.more → StandAtStart d found 1 h.more

@@ -1,5 +1,5 @@
 -- The open map with a key that is the same as an earlier one, and the verdict.
-use Rattle.std.proofs.Common.{◌≡◌, ℕ, suc, ◌+◌, ◌-◌, ◌^◌, ◌<◌, ◌≤◌, true, List, [], ◌∷◌, ◌++◌, length, take, refl, sym, ap, ◌∙◌, subst, inl, inr, arith, append_assoc, ◌⊎◌, length-append}
+use Rattle.std.proofs.Common.{Some, ◌≡◌, ℕ, suc, ◌+◌, ◌-◌, ◌^◌, ◌<◌, ◌≤◌, true, List, [], ◌∷◌, ◌++◌, length, take, refl, sym, ap, ◌∙◌, subst, inl, inr, arith, append_assoc, ◌⊎◌, length-append}
 use Rattle.cbor_head.specs.Prelude.{IsBeginning, plain, complaint, Bounds, Spelling, a_map, spell, IsSpelled, depth, IsVerdict, refused, refusal}
 use Rattle.cbor_head.specs.declared.{order.KeyOrder.KeyOrder, reason.Reason.TheVariants.RepeatedKey}
 use Rattle.cbor_builder.specs.Built.{keys_so_far, IsFirstRepeat, AreOpenKeysDifferent, IsRepeatReported, open_maps}
@@ -7,11 +7,11 @@ use Rattle.cbor_builder.specs.declared.repeat.Repeat.{Repeat}
 use Rattle.theory_verdicts.specs.Given.{level_open, opens, full_open}
 use Rattle.theory_verdicts.specs.Levels.{Level, a_member, some_member, tagged, level_bytes, AreLevels, bytes_before}
 use Rattle.theory_verdicts.{specs.Kinds.KeepsToKinds, proofs.KindFrames.keeps_prefix, proofs.LevelFrames.begins_so_far, proofs.LevelFrames.begins_before}
-use Rattle.theory_verdicts.proofs.PathVerdict.{complaint_stops}
+use Rattle.theory_verdicts.{specs.Judged.IsJudged, proofs.CleanParts.clean-prefix, proofs.PathVerdict.complaint_stops}
 use Rattle.cbor_parser.specs.Sink.{is_map as its_kind, IsReportedIn, IsReportedFull}
 use Rattle.cbor_parser.specs.inner.OpenMaps.{HasTakenPairs, is_map_level, map_levels}
 use Rattle.cbor_parser.proofs.ReportedKeys.{IsKeyIn, key_in_level, key_in_map}
-use Rattle.cbor_parser.specs.inner.{OpenContainer.opener, OpenContainer.full_opener, Repeated.IsKeyReported}
+use Rattle.cbor_parser.specs.inner.{Parser.BeginsTaken, OpenContainer.opener, OpenContainer.full_opener, Repeated.IsKeyReported}
 use Rattle.cbor_parser.proofs.{LevelPaths.repeat_of_whole, Repeats.repeated_by_bytes}
 
 -- ---- the maps among open containers
@@ -119,23 +119,38 @@ module _ (limits : Bounds) (input : List ℕ) (small : length input ≤ 2 ^ 62) 
 
 -- ---- the verdict
 
+module _ (limits : Bounds) (input : List ℕ) (behind pair : ℕ) (h : IsKeyReported limits input behind pair) where
+  abbrev before : List ℕ
+  before = bytes_before (h.level ∷ h.outer)
+
+  pub reported_judged : IsJudged plain 0 limits.depth (before ++ spell h.key) (Some (complaint (length before + length (spell h.key)) (length before) RepeatedKey))
+  reported_judged =
+      let small = h.small in
+      let size = ap length h.bytes in
+      let parts = length-append before (spell h.key ++ h.more) in
+      let behind_it = length-append (spell h.key) h.more in
+      let early : length before < 2 ^ 63 = omega (arith, small, size, parts) in
+      let key_short : length (spell h.key) < 2 ^ 63 = omega (arith, small, size, parts, behind_it) in
+      let repeated = repeated_by_bytes h.order limits.depth (limits.depth - suc (length h.outer)) h.outer h.level h.es h.is_behind h.levels early h.key h.taken key_short h.held in
+      repeat_of_whole h.order limits.depth h.outer h.level h.es h.is_behind h.levels early h.apart h.key h.taken repeated
+
+  -- then no item without complaint is at the start
+  pub never_known : BeginsTaken limits.depth input → ⊥
+  never_known (item, more, taken, prefix) =
+      let same : limits.depth ≡ limits.depth - 0 = omega arith in
+      let j = subst (λ (d : ℕ). IsJudged plain 0 d (before ++ spell h.key) (Some (complaint (length before + length (spell h.key)) (length before) RepeatedKey))) same reported_judged in
+      clean-prefix limits.depth [] j.item item (before ++ spell h.key) j.rest h.more more tt j.is taken (append_assoc before (spell h.key) h.more ∙ sym h.bytes ∙ prefix) _ j.finding.holds j.finding.ends
+
 pub reported_verdict : (limits : Bounds) (input : List ℕ) (behind pair : ℕ) (bytes : List ℕ) → (h : IsKeyReported limits input behind pair) → input ≡ take limits.bytes bytes
     → IsVerdict limits plain bytes (refused (refusal RepeatedKey (length (bytes_before (h.level ∷ h.outer))) (length (bytes_before (h.level ∷ h.outer)) + length (spell h.key))))
 reported_verdict limits input behind pair bytes h within =
     let before = bytes_before (h.level ∷ h.outer) in
-    let small = h.small in
-    let size = ap length h.bytes in
-    let parts = length-append before (spell h.key ++ h.more) in
-    let behind_it = length-append (spell h.key) h.more in
-    let early : length before < 2 ^ 63 = omega (arith, small, size, parts) in
-    let key_short : length (spell h.key) < 2 ^ 63 = omega (arith, small, size, parts, behind_it) in
-    let repeated = repeated_by_bytes h.order limits.depth (limits.depth - suc (length h.outer)) h.outer h.level h.es h.is_behind h.levels early h.key h.taken key_short h.held in
     complaint_stops plain limits bytes _ (record {
       p = before ++ spell h.key;
       rest = h.more;
       splits = sym within ∙ h.bytes ∙ sym (append_assoc before (spell h.key) h.more);
       complaint = complaint (length before + length (spell h.key)) (length before) RepeatedKey;
-      judged = repeat_of_whole h.order limits.depth h.outer h.level h.es h.is_behind h.levels early h.apart h.key h.taken repeated;
+      judged = reported_judged limits input behind pair h;
       keeps = h.keeps;
       is = refl;
     })

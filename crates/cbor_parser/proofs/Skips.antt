@@ -1,9 +1,13 @@
 -- Items that are skipped one by one.
-use Rattle.std.proofs.Common.{◌≡◌, ℕ, suc, ◌-◌, List, ◌++◌, refl, sym, ◌∙◌, subst, arith, append_assoc}
+use Rattle.std.proofs.Common.{◌≡◌, ℕ, suc, ◌-◌, ◌≤◌, List, ◌++◌, length, take, take_all, inl, inr, refl, sym, ◌∙◌, subst, arith, append_assoc}
 use Rattle.cbor_head.specs.Prelude.{Spelling, Spellings, no_spellings, a_spelling, spell, spell_all, spellings_count}
-use Rattle.theory_values.proofs.ReadLaws.{unique}
-use Rattle.theory_verdicts.specs.Levels.{IsTaken, AreTaken}
-use Rattle.cbor_parser.specs.inner.Skip.{StandAtStart}
+use Rattle.cbor_head.specs.Prelude.{plain, Bounds}
+use Rattle.cbor_head.specs.declared.keys.Keys.TheVariants.{Any}
+use Rattle.theory_values.proofs.{Accepted.accepts_exactly, OneVerdict.one_verdict, ReadLaws.unique}
+use Rattle.theory_verdicts.{specs.Kinds.KeepsToKinds, proofs.Decisions.whole_beside, specs.Levels.IsTaken, specs.Levels.AreTaken}
+use Rattle.cbor_parser.specs.declared.parser.ParseError.TheVariants as errors
+use Rattle.cbor_parser.specs.{declared.parser.ParseError.ParseError, inner.Parser.BeginsTaken, inner.Parser.IsStopWithin}
+use Rattle.cbor_parser.{proofs.ReportedMaps.never_known, specs.inner.Skip.StandAtStart}
 
 -- no items
 pub none_at_start : (d : ℕ) (rest : List ℕ) (count : ℕ) (behind : List ℕ) → count ≡ 0 → StandAtStart d rest count behind → rest ≡ behind
@@ -33,6 +37,20 @@ one_more d rest count behind h = go h.items h.taken h.count_is h.bytes_are
       bytes = e ∙ append_assoc (spell s) (spell_all ss) behind;
       others = record { items = ss; taken = t.1; space = h.space; count_is = omega (arith, n); bytes_are = refl };
     }
+
+-- a parse of an item that is known to be valid does not stop if no request is refused and the kinds of keys are not judged
+pub never-stops : (limits : Bounds) (input : List ℕ) → limits.keys ≡ Any → length input ≤ limits.bytes → BeginsTaken limits.depth input → (e : ParseError) → IsStopWithin ⊥ limits input e → ⊥
+never-stops limits input any within known (errors.Repeated behind pair) h = never_known limits input behind pair h known
+never-stops limits input any within known (errors.Refused f) (inr x) = x.1
+never-stops limits input any within (item, more, taken, prefix) (errors.Refused f) (inl v) =
+    let all : input ≡ take limits.bytes input = sym (take_all limits.bytes input within) in
+    let keeps : KeepsToKinds limits plain (spell item) = λ asks s c starts of_kind ends. cc (any, asks.1) in
+    let accepted = (accepts_exactly limits plain input item).1 (
+      more,
+      (taken.spelled, taken.within, sym prefix ∙ all),
+      whole_beside limits plain item (record { spelled = taken.spelled; within = taken.within; bytes_are = refl }) keeps (taken.clean 0),
+    ) in
+    cc (one_verdict limits plain input _ _ (v input all) accepted)
 
 -- the others follow one item
 pub gone_on : (d : ℕ) (rest : List ℕ) (count : ℕ) (behind : List ℕ) → StandAtStart d rest (suc count) behind → (item : Spelling) (more : List ℕ) → IsTaken d item → rest ≡ spell item ++ more → StandAtStart d more count behind

@@ -1,6 +1,6 @@
 -- What a sink was given of a valid item, at each position of a walk.
 use Rattle.std.specs.Prelude.{ℕ, ◌≡◌, ◌<◌, ◌≤◌, ◌-◌, ◌^◌, ◌⊎◌, ◌++◌, Bool, true, false, List, [], ◌∷◌, length}
-use Rattle.cbor_head.specs.Prelude.{plain, Bounds, Spelling, SpelledEntries, array, a_map, spell, value_of, IsSpelled, depth, Value}
+use Rattle.cbor_head.specs.Prelude.{plain, Bounds, Spelling, SpelledEntries, entry, array, a_map, spell, value_of, IsSpelled, depth, Value}
 use Rattle.cbor_head.specs.Value as value
 use Rattle.cbor_head.specs.declared.{major.Major.Major, major.Major.TheVariants.Negative, major.Major.TheVariants.Simple, order.KeyOrder.KeyOrder}
 use Rattle.cbor_builder.specs.{Built.AreOpenKeysDifferent, Built.IsRepeatReported, declared.repeat.Repeat.Repeat}
@@ -107,10 +107,15 @@ abbrev pub Ends : (S : Type 0) → (S → S → ParseState → Type 0) → Bool 
 Ends S stands trusts is_map old new =
     (start : S) (d : ℕ) (ls : List Level) (s : Spelling) → Fills trusts d ls s → StandsFull S (Reported S stands is_map) d start old ls s → IsClean s × stands start new (settle ls s)
 
+-- it has no keys
+abbrev pub IsKeyless : Spelling → Type 0
+IsKeyless (a_map w (entry k v es)) = ⊥
+IsKeyless _ = Unit {0}
+
 -- it does not end, since two of its keys are equal, and this key is reported
 abbrev pub Repeats : (S : Type 0) → (S → S → ParseState → Type 0) → Bool → Bool → S → Repeat → Type 0
 Repeats S stands trusts is_map old repeat =
-    (start : S) (d : ℕ) (ls : List Level) (s : Spelling) → Fills trusts d ls s → StandsFull S (Reported S stands is_map) d start old ls s → IsReportedFull ls s repeat
+    (start : S) (d : ℕ) (ls : List Level) (s : Spelling) → Fills trusts d ls s → StandsFull S (Reported S stands is_map) d start old ls s → IsReportedFull ls s repeat × (IsKeyless s → ⊥)
 
 -- ---- a string in chunks, by the relation that says what its content so far is
 

@@ -1,4 +1,5 @@
 -- What only private functions mention.
+pub mod Begins
 pub mod Cells
 pub mod Faults
 pub mod Items

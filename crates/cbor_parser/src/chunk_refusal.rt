@@ -1,6 +1,7 @@
 //! Why a string in chunks is refused.
 
-ghost use Rattle.std.specs.Prelude.{◌<◌, ◌+◌, ◌^◌, length, IfSome};
+ghost use Rattle.std.specs.Prelude.{◌<◌, ◌+◌, ◌^◌, length, MatchOption};
+ghost use Rattle.cbor_parser.specs.inner.Begins.{AreWholeChunks};
 ghost use Rattle.cbor_parser.specs.inner.Parts.{chunked_from};
 ghost use Rattle.cbor_parser.specs.inner.Faults.{AreChunksRefused};
 
@@ -14,7 +15,8 @@ use cbor_head::{Reason, Refusal, read_argument};
 #[inline(never)]
 pub(crate) fn chunks_fault(is_text: bool, behind: &[u8], at: usize) -> Option<Refusal>
     requires { at + 1 + length behind.now < 2 ^ 63 }
-    ensures { IfSome result (AreChunksRefused (chunked_from is_text behind.now) at) }
+    ensures { MatchOption result (AreWholeChunks is_text behind.now)
+        (AreChunksRefused (chunked_from is_text behind.now) at) }
 {
     let kind = if is_text { 3 } else { 2 };
     let end = at + 1 + behind.len();

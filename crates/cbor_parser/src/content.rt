@@ -1,9 +1,10 @@
 //! The strings of a valid item: their payloads, in one piece or in chunks.
 
-ghost use Rattle.std.specs.Prelude.{◌≡◌, ◌∷◌, IfSome};
+ghost use Rattle.std.specs.Prelude.{◌≡◌, ◌∷◌, ℕ, List, None, IfSome, MatchOption};
 ghost use Rattle.theory_verdicts.specs.Reading.{string_major};
 ghost use Rattle.cbor_parser.specs.inner.Parser.{IsExpectedFor, TakesItem};
-ghost use Rattle.cbor_parser.specs.inner.Parts.{IsHead, IsPayload, chunked_from, TakesScalar};
+ghost use Rattle.cbor_parser.specs.declared.item_rules.Part.TheVariants as parts;
+ghost use Rattle.cbor_parser.specs.inner.Parts.{IsHead, IsPayload, IsWholePayload, chunked_from, TakesScalar};
 
 use crate::item_rules::Part;
 use crate::open_container::OpenContainer;
@@ -28,8 +29,9 @@ impl<S> Parser<S> {
         S: Sink<'a>,
         requires head { IsHead (string_major is_text) count rest.now behind.now }
         requires expected { IsExpectedFor S S.stands S.trusts top.now self.old.sink rest.now }
-        ensures takes { TakesItem S S.stands S.trusts S.holds result rest.now top.now self.old.sink self.new.sink }
+        ensures takes { TakesItem S S.stands S.trusts S.holds S.refused result rest.now top.now self.old.sink self.new.sink }
         ensures prefix { TakesScalar result rest.now }
+        ensures untaken { result ≡ parts.Untaken → IsWholePayload is_text count behind.now → ⊥ }
     {
         let Some(size) = payload_size::<S>(is_text, count, behind) else {
             return Part::Untaken;
@@ -53,8 +55,9 @@ impl<S> Parser<S> {
         S: Sink<'a>,
         requires opener { start.now ≡ chunked_from is_text behind.now }
         requires expected { IsExpectedFor S S.stands S.trusts top.now self.old.sink start.now }
-        ensures takes { TakesItem S S.stands S.trusts S.holds result start.now top.now self.old.sink self.new.sink }
+        ensures takes { TakesItem S S.stands S.trusts S.holds S.refused result start.now top.now self.old.sink self.new.sink }
         ensures prefix { TakesScalar result start.now }
+        ensures untaken { result ≡ parts.Untaken → ⊥ }
     {
         let is_key = top.expected.is_key();
         let Ok(()) = self.sink.begin_string(is_key, is_text) else {
@@ -88,8 +91,10 @@ impl<S> Parser<S> {
 // The head of a chunk with this first byte.
 #[inline(always)]
 fn chunk_head<'a>(is_text: bool, first: u8, behind: &'a [u8]) -> Option<Argument<'a>>
-    ensures { IfSome result (λ head.
+    ensures some { IfSome result (λ head.
         IsHead (string_major is_text) head.number (first ∷ behind.now) head.rest.now) }
+    ensures none { result ≡ None → (n : ℕ) (rest : List ℕ)
+        → IsHead (string_major is_text) n (first ∷ behind.now) rest → ⊥ }
 {
     let kind = if is_text { 3 } else { 2 };
     if first / 32 != kind || first % 32 > 27 {
@@ -102,7 +107,8 @@ fn chunk_head<'a>(is_text: bool, first: u8, behind: &'a [u8]) -> Option<Argument
 // is known to be valid, its texts are not checked.
 #[inline(always)]
 fn payload_size<'a, S: Sink<'a>>(is_text: bool, count: u64, rest: &'a [u8]) -> Option<usize>
-    ensures { IfSome result (λ size. IsPayload S.trusts is_text count size rest.now) }
+    ensures { MatchOption result (IsWholePayload is_text count rest.now → ⊥)
+        (λ size. IsPayload S.trusts is_text count size rest.now) }
 {
     if count > rest.len() as u64 {
         return None;

@@ -1,10 +1,13 @@
 //! Indefinite lengths: the openers of strings, arrays and maps, and the break that ends them.
 
-ghost use Rattle.std.specs.Prelude.{◌≡◌, ◌≤◌, ◌-◌, ◌∷◌, length};
+ghost use Rattle.std.specs.Prelude.{◌≡◌, ◌≤◌, ◌<◌, ◌-◌, ◌%◌, ◌∷◌, length};
+ghost use Rattle.cbor_head.specs.declared.keys.Keys.{Keys};
 ghost use Rattle.cbor_parser.specs.Stack.{open_levels};
 ghost use Rattle.cbor_parser.specs.inner.OpenContainer.{Cell};
 ghost use Rattle.cbor_parser.specs.inner.Parser.{IsExpectedIn, Takes};
+ghost use Rattle.cbor_parser.specs.inner.Begins.{IsLeft};
 ghost use Rattle.cbor_parser.specs.inner.Parts.{TakesPrefix};
+ghost use Rattle.cbor_parser.specs.declared.item_rules.Part.TheVariants as parts;
 
 use crate::container::Expected;
 use crate::item_rules::Part;
@@ -33,9 +36,11 @@ impl<S> Parser<S> {
         requires begins { rest.now ≡ first ∷ behind.now }
         requires expected { IsExpectedIn S S.stands S.trusts depth (open_levels Cell stack.old cells.old) self.old.sink rest.now }
         ensures cells { stack.new.height ≤ length cells.new }
-        ensures takes { Takes S S.stands S.trusts S.holds result depth rest.now (open_levels Cell stack.old cells.old)
+        ensures takes { Takes S S.stands S.trusts S.holds S.refused result depth rest.now (open_levels Cell stack.old cells.old)
             self.old.sink (open_levels Cell stack.new cells.new) self.new.sink }
         ensures prefix { TakesPrefix result (depth - stack.old.height) stack.old.top rest.now }
+        ensures untaken { result ≡ parts.Untaken → 27 < first % 32 → (keys : Keys)
+            → IsLeft keys depth stack.new.top stack.new.height (length cells.new) rest.now }
     {
         match first {
             0x5f => self.take_chunks(&stack.top, false, rest, behind),

@@ -63,14 +63,14 @@ pub(crate) trait ItemRules<'a> {
     // The input's item is complete.
     ghost passes: { Self → Self → Bounds → List ℕ → List ℕ → Type 0 };
 
-    // With this number of cells for these containers, the next item may be left because a cell is missing.
-    ghost lacks: { Bounds → List (Cell Self.Kept) → ℕ → Type 0 };
+    // With this number of cells for these containers, what is next, at the start of these bytes, may be left.
+    ghost lacks: { Bounds → List (Cell Self.Kept) → ℕ → List ℕ → Type 0 };
 
     // The parse stops, before the rest of the input.
     ghost stops: { Self → Self → Bounds → List ℕ → List (Cell Self.Kept) → List ℕ → Self.Stop → Type 0 };
 
-    // The input is refused for this reason, by rules in this first state.
-    ghost refuses: { Self → Bounds → List ℕ → Self.Error → Type 0 };
+    // The rules went from the first state to this one, and the input is refused for this reason.
+    ghost refuses: { Self → Self → Bounds → List ℕ → Self.Error → Type 0 };
 
     /// Takes the item, head or break at the start of `rest`.
     fn take(
@@ -125,5 +125,5 @@ pub(crate) trait ItemRules<'a> {
             (open_levels (Cell Self.Kept) stack.now cells.now) (length cells.now) }
         ensures { (start : Self) → StopsAt Self Self.Kept Self.Stop stands stops lacks stop.entry start self.old limits input.now
             (open_levels (Cell Self.Kept) stack.now cells.now) (length cells.now)
-            → refuses start limits input.now result };
+            → refuses start self.new limits input.now result };
 }

@@ -6,6 +6,7 @@ ghost use Rattle.cbor_head.specs.Verdict.{refusal};
 ghost use Rattle.theory_verdicts.specs.PathKinds.{IsFitPrefix};
 ghost use Rattle.cbor_parser.specs.declared.item_start.ItemStart.TheVariants as starts;
 ghost use Rattle.cbor_parser.specs.inner.Items.{IsStart, IsTaken};
+ghost use Rattle.cbor_parser.specs.inner.Begins.{BeginsUnrefused};
 ghost use Rattle.cbor_parser.specs.inner.Faults.{IsRefusedStart, IsIndefiniteStart};
 ghost use Rattle.cbor_parser.specs.Strings.{IsStringHead, IsStringWhole, IsStringFault};
 
@@ -48,6 +49,7 @@ pub(crate) fn item_start(rest: &[u8], at: usize, here: Here, is_strict: bool) ->
     ensures refused { IsRefusedStart is_strict rest.now at here result }
     ensures taken { is_strict ≡ true → here.may_break ≡ false → IsStart rest.now here.space result }
     ensures fits { IsTaken result → here.is_key ≡ true → IsFitPrefix rest.now }
+    ensures begins { BeginsUnrefused here rest.now result }
 {
     let end = at + rest.len();
     let Some((first, behind)) = rest.split_first() else {

@@ -6,6 +6,7 @@ ghost use Rattle.theory_verdicts.specs.PathKinds.{IsFitPrefix, IsOtherPrefix};
 
 use crate::container::Expected;
 use cbor_head::Keys;
+use theory_values::is_other_kind;
 
 /// Whether kinds of keys are judged, and a key is expected.
 #[inline(always)]
@@ -21,9 +22,10 @@ pub(crate) fn is_asked(keys: Keys, expected: Expected) -> bool
 pub(crate) fn begins_other_kind(rest: &[u8]) -> bool
     ensures fits { result ≡ false → IsFitPrefix rest.now }
     ensures other { result ≡ true → IsOtherPrefix rest.now }
+    ensures unfit { result ≡ true → IsFitPrefix rest.now → ⊥ }
 {
     match rest.first() {
-        Some(first) => *first != 0xff && !matches!(*first / 32, 0 | 1 | 3),
+        Some(first) => is_other_kind(*first),
         None => false,
     }
 }
@@ -34,6 +36,7 @@ pub(crate) fn begins_other_kind(rest: &[u8]) -> bool
 pub(crate) fn is_other_key(keys: Keys, expected: Expected, rest: &[u8]) -> bool
     ensures fits { result ≡ false → keys ≡ IntegersAndTexts → expected ≡ Expected.Key → IsFitPrefix rest.now }
     ensures other { result ≡ true → (keys ≡ IntegersAndTexts) × (expected ≡ Expected.Key) × IsOtherPrefix rest.now }
+    ensures unfit { result ≡ true → IsFitPrefix rest.now → ⊥ }
 {
     is_asked(keys, expected) && begins_other_kind(rest)
 }

@@ -25,7 +25,7 @@ pub(crate) fn parse<'a, R: ItemRules<'a>>(
     requires fits { CellsFitInMemory R.Kept.row }
     ensures { MatchResult result
         (λ behind. R.passes rules.old rules.new limits input.now behind.now)
-        (R.refuses rules.old limits input.now) }
+        (R.refuses rules.old rules.new limits input.now) }
 {
     let none = [outermost; 0];
     shallow(rules, input, input, Stack::new(outermost), &none, limits)
@@ -51,7 +51,7 @@ fn shallow<'a, R: ItemRules<'a>>(
         → R.stands first rules.old limits input.now (open_levels (Cell R.Kept) stack few.now) rest.now
         → MatchResult result
         (λ behind. R.passes first rules.new limits input.now behind.now)
-        (R.refuses first limits input.now) }
+        (R.refuses first rules.new limits input.now) }
 {
     let mut stack = stack;
     let mut cells = [stack.top; FEW];
@@ -86,7 +86,7 @@ fn deeper<'a, R: ItemRules<'a>>(
         → R.stands first rules.old limits input.now (open_levels (Cell R.Kept) stack few.now) rest.now
         → MatchResult result
         (λ behind. R.passes first rules.new limits input.now behind.now)
-        (R.refuses first limits input.now) }
+        (R.refuses first rules.new limits input.now) }
 {
     let mut stack = stack;
     let mut cells = [stack.top; MOST];

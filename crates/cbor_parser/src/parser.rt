@@ -1,13 +1,14 @@
 //! The parser of valid items, which gives their parts to a sink.
 
-ghost use Rattle.std.specs.Prelude.{◌≡◌, ◌≤◌, ◌^◌, ℕ, Bool, List, true, false, [], length, MatchResult};
+ghost use Rattle.std.specs.Prelude.{◌≡◌, ◌≤◌, ◌^◌, ℕ, Bool, List, true, false, [], length, IfErr, MatchResult};
 ghost use Rattle.cbor_head.specs.Limits.{Bounds};
+ghost use Rattle.cbor_head.specs.declared.reason.Reason.TheVariants as reasons;
 ghost use Rattle.theory_verdicts.specs.Levels.{item_expected};
 ghost use Rattle.cbor_parser.specs.Stack.{open_levels};
 ghost use Rattle.cbor_parser.specs.ParsedItem.{IsStop};
 ghost use Rattle.cbor_parser.specs.Sink.{IsKnownValid, IsGivenPrefix};
 ghost use Rattle.cbor_parser.specs.inner.OpenContainer.{Cell};
-ghost use Rattle.cbor_parser.specs.inner.Parser.{Expects, HasItem, Fills, Passes, Stops, LacksNothing, IsStopWithin};
+ghost use Rattle.cbor_parser.specs.inner.Parser.{Expects, HasItem, Fills, Passes, Stops, Lacks, IsStopWithin};
 ghost use Rattle.cbor_parser.specs.inner.Repeated.{IsKeyReportedIn};
 ghost use Rattle.cbor_parser.specs.inner.Rules.{StopsAt, HasCellLeft};
 
@@ -76,7 +77,7 @@ impl<S> Parser<S> {
     /// sections 3 and 5.3.1), within the limits, and returns the item's size in bytes; else the refusal of
     /// the bytes within the limits, or `Memory`, if memory was refused before that, with 0 as `place` and
     /// `read`. A sink that does not look for equal keys must be given only items that are known to be
-    /// valid; nothing is claimed about why it stops.
+    /// valid.
     ///
     /// It reads the bytes once, without recursion; if a key is repeated, it reads its map once more, up to
     /// that key.
@@ -85,9 +86,10 @@ impl<S> Parser<S> {
         S: Sink<'a>,
         requires fresh { S.stands self.old.sink self.old.sink (item_expected []) }
         requires known { S.trusts ≡ true → IsKnownValid limits bytes.now }
-        ensures { MatchResult result
+        ensures given { MatchResult result
             (λ size. IsGivenPrefix (S.stands self.old.sink self.new.sink) limits bytes.now size)
-            (λ f. S.trusts ≡ false → IsStop limits bytes.now f) }
+            (λ f. IsStop limits bytes.now f) }
+        ensures memory { IfErr result (λ f. f.reason ≡ reasons.Memory → S.refused self.new.sink) }
     {
         let input = within(bytes, limits.bytes());
         let outermost = OpenContainer::counted(Expected::Item, 0, 0);
@@ -95,12 +97,9 @@ impl<S> Parser<S> {
             Ok(behind) => Ok((input.len() - behind.len()) as u64),
             Err(ParseError::Refused(refusal)) => Err(refusal),
             // Only here the cells of the walk are off the stack.
-            Err(ParseError::Repeated { behind, pair }) => match repeated_key(
-                input, behind, pair, limits,
-            ) {
-                Some(refusal) => Err(refusal),
-                None => Err(Refusal::at(Reason::Memory, 0)),
-            },
+            Err(ParseError::Repeated { behind, pair }) => {
+                Err(repeated_key(input, behind, pair, limits))
+            }
         }
     }
 }
@@ -121,11 +120,11 @@ impl<'a, S: Sink<'a>> ItemRules<'a> for Parser<S> {
 
     ghost passes = { Passes S S.stands S.trusts };
 
-    ghost lacks = { LacksNothing };
+    ghost lacks = { Lacks };
 
-    ghost stops = { Stops S S.stands S.trusts S.holds };
+    ghost stops = { Stops S S.stands S.trusts S.holds S.refused };
 
-    ghost refuses = { λ first limits input error. IsStopWithin S.trusts limits input error };
+    ghost refuses = { λ first now limits input error. IsStopWithin (S.refused now.sink) limits input error };
 
     #[inline(always)]
     fn take(
@@ -177,19 +176,20 @@ impl<'a, S: Sink<'a>> ItemRules<'a> for Parser<S> {
         requires cells { stack.now.height ≤ length cells.now }
         requires left { HasCellLeft stop stack.now.height (length cells.now) limits }
         requires within { length input.now ≤ 2 ^ 62 }
-        requires stopped { (first : Parser S) × StopsAt (Parser S) ℕ SinkStop (Expects S S.stands S.trusts) (Stops S S.stands S.trusts S.holds)
-            LacksNothing stop first self.old limits input.now (open_levels Cell stack.now cells.now) (length cells.now) }
-        ensures { (first : Parser S) → StopsAt (Parser S) ℕ SinkStop (Expects S S.stands S.trusts) (Stops S S.stands S.trusts S.holds)
-            LacksNothing stop.entry first self.old limits input.now (open_levels Cell stack.now cells.now) (length cells.now)
-            → IsStopWithin S.trusts limits input.now result }
+        requires stopped { (first : Parser S) × StopsAt (Parser S) ℕ SinkStop (Expects S S.stands S.trusts) (Stops S S.stands S.trusts S.holds S.refused)
+            Lacks stop first self.old limits input.now (open_levels Cell stack.now cells.now) (length cells.now) }
+        ensures { (first : Parser S) → StopsAt (Parser S) ℕ SinkStop (Expects S S.stands S.trusts) (Stops S S.stands S.trusts S.holds S.refused)
+            Lacks stop.entry first self.old limits input.now (open_levels Cell stack.now cells.now) (length cells.now)
+            → IsStopWithin (S.refused self.new.sink) limits input.now result }
     {
-        let memory = ParseError::Refused(Refusal::at(Reason::Memory, 0));
         let rest = match stop {
             WalkStop::Untaken(rest) => rest,
             WalkStop::Stopped(rest, why) => match why {
                 SinkStop::Broken => rest,
                 SinkStop::Repeated => return repeated(stack, cells, self.repeat),
-                SinkStop::Memory => return memory,
+                SinkStop::Memory => {
+                    return ParseError::Refused(Refusal::at(Reason::Memory, 0));
+                }
             },
         };
         if let Some(repeat) = self.sink.first_repeat() {
@@ -205,7 +205,8 @@ impl<'a, S: Sink<'a>> ItemRules<'a> for Parser<S> {
             ItemStart::Refused(refusal) => {
                 ParseError::Refused(truncated_or_too_long(refusal, input, limits.bytes()))
             }
-            _ => memory,
+            // Only what is refused is left.
+            _ => unreachable!(),
         }
     }
 }
@@ -219,9 +220,9 @@ fn repeated(
     requires cells { stack.now.height ≤ length cells.now }
     requires reported { (limits : Bounds) × (input : List ℕ)
         × IsKeyReportedIn limits input (open_levels Cell stack.now cells.now) repeat }
-    ensures { (trusts : Bool) (limits : Bounds) (input : List ℕ)
+    ensures { (limits : Bounds) (input : List ℕ)
         → IsKeyReportedIn limits input (open_levels Cell stack.now cells.now) repeat
-        → IsStopWithin trusts limits input result }
+        → IsStopWithin ⊥ limits input result }
 {
     match reported_map(stack, cells, repeat.outside) {
         Some(map) => ParseError::Repeated {

@@ -7,6 +7,8 @@ ghost use Rattle.theory_verdicts.specs.PathKinds.{IsFitPrefix};
 ghost use Rattle.cbor_parser.specs.Stack.{open_levels};
 ghost use Rattle.cbor_parser.specs.inner.OpenContainer.{Cell};
 ghost use Rattle.cbor_parser.specs.inner.Parser.{IsExpectedIn, IsExpectedFor, Takes, TakesItem};
+ghost use Rattle.cbor_parser.specs.declared.item_rules.Part.TheVariants as parts;
+ghost use Rattle.cbor_parser.specs.inner.Begins.{IsFull, IsLeft};
 ghost use Rattle.cbor_parser.specs.inner.Parts.{IsHead, IsOpener, Counts, HasTaken, TakesPrefix, TakesScalar};
 
 use crate::container::Expected;
@@ -34,11 +36,13 @@ impl<S> Parser<S> {
         requires cells { stack.old.height ≤ length cells.old }
         requires expected { IsExpectedIn S S.stands S.trusts depth (open_levels Cell stack.old cells.old) self.old.sink rest.now }
         ensures cells { stack.new.height ≤ length cells.new }
-        ensures takes { Takes S S.stands S.trusts S.holds result depth rest.now (open_levels Cell stack.old cells.old)
+        ensures takes { Takes S S.stands S.trusts S.holds S.refused result depth rest.now (open_levels Cell stack.old cells.old)
             self.old.sink (open_levels Cell stack.new cells.new) self.new.sink }
         ensures prefix { TakesPrefix result (depth - stack.old.height) stack.old.top rest.now }
         ensures fits { HasTaken result → keys ≡ IntegersAndTexts → stack.old.top.expected ≡ Expected.Key
             → IsFitPrefix rest.now }
+        ensures untaken { result ≡ parts.Untaken
+            → IsLeft keys depth stack.new.top stack.new.height (length cells.new) rest.now }
     {
         let Some((first, behind)) = rest.split_first() else {
             return Part::Untaken;
@@ -117,8 +121,9 @@ impl<S> Parser<S> {
         requires kind { IsLeaf major }
         requires head { IsHead major number rest.now behind.now }
         requires expected { IsExpectedFor S S.stands S.trusts top.now self.old.sink rest.now }
-        ensures takes { TakesItem S S.stands S.trusts S.holds result rest.now top.now self.old.sink self.new.sink }
+        ensures takes { TakesItem S S.stands S.trusts S.holds S.refused result rest.now top.now self.old.sink self.new.sink }
         ensures prefix { TakesScalar result rest.now }
+        ensures untaken { result ≡ parts.Untaken → ⊥ }
     {
         match self.sink.leaf(top.expected.is_key(), major, number) {
             Ok(()) => Part::Item(rest.len() - behind.len()),
@@ -146,9 +151,11 @@ impl<S> Parser<S> {
         requires head { IsHead major number rest.now behind.now }
         requires expected { IsExpectedIn S S.stands S.trusts depth (open_levels Cell stack.old cells.old) self.old.sink rest.now }
         ensures cells { stack.new.height ≤ length cells.new }
-        ensures takes { Takes S S.stands S.trusts S.holds result depth rest.now (open_levels Cell stack.old cells.old)
+        ensures takes { Takes S S.stands S.trusts S.holds S.refused result depth rest.now (open_levels Cell stack.old cells.old)
             self.old.sink (open_levels Cell stack.new cells.new) self.new.sink }
         ensures prefix { TakesPrefix result (depth - stack.old.height) stack.old.top rest.now }
+        ensures untaken { result ≡ parts.Untaken
+            → IsFull depth stack.new.height (length cells.new) }
     {
         if number > 0 {
             let opened = OpenContainer::counted(expected, number - 1, behind.len());
@@ -163,7 +170,8 @@ impl<S> Parser<S> {
         // It has no cell. As it has no keys, no two are the same.
         match self.sink.end(expected.is_key()) {
             Ok(None) => Part::Item(rest.len() - behind.len()),
-            _ => Part::Stopped(SinkStop::Memory),
+            Ok(Some(_repeat)) => unreachable!(),
+            Err(_) => Part::Stopped(SinkStop::Memory),
         }
     }
 
@@ -187,9 +195,11 @@ impl<S> Parser<S> {
         requires opener { IsOpener major number opened rest.now behind.now }
         requires expected { IsExpectedIn S S.stands S.trusts depth (open_levels Cell stack.old cells.old) self.old.sink rest.now }
         ensures cells { stack.new.height ≤ length cells.new }
-        ensures takes { Takes S S.stands S.trusts S.holds result depth rest.now (open_levels Cell stack.old cells.old)
+        ensures takes { Takes S S.stands S.trusts S.holds S.refused result depth rest.now (open_levels Cell stack.old cells.old)
             self.old.sink (open_levels Cell stack.new cells.new) self.new.sink }
         ensures prefix { TakesPrefix result (depth - stack.old.height) stack.old.top rest.now }
+        ensures untaken { result ≡ parts.Untaken
+            → IsFull depth stack.new.height (length cells.new) }
     {
         if stack.height >= depth || stack.height >= cells.len() {
             return Part::Untaken;

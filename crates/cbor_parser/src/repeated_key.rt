@@ -1,7 +1,7 @@
 //! The refusal of a key that is the same as an earlier one of its map, from the key's position in the
 //! map.
 
-ghost use Rattle.std.specs.Prelude.{◌≡◌, ◌≤◌, ℕ, List, length, take, IfSome};
+ghost use Rattle.std.specs.Prelude.{◌≡◌, ◌≤◌, ℕ, List, length, take};
 ghost use Rattle.cbor_head.specs.Complaint.{plain};
 ghost use Rattle.cbor_head.specs.Verdict.{IsVerdict, refused};
 ghost use Rattle.cbor_parser.specs.Stack.{open_levels};
@@ -12,28 +12,24 @@ ghost use Rattle.cbor_parser.specs.inner.Repeated.{IsKeyReported};
 use crate::open_container::OpenContainer;
 use crate::skip::past_items;
 use crate::stack::Stack;
-use cbor_head::{Limits, Reason, Refusal};
+use cbor_head::{Keys, Limits, Reason, Refusal};
 
 /// The refusal of a key that is the same as an earlier one. `behind` bytes of the input follow its map's
 /// head, and `pair` pairs come before the key.
-pub(crate) fn repeated_key(
-    input: &[u8],
-    behind: usize,
-    pair: usize,
-    limits: Limits,
-) -> Option<Refusal>
-    requires { IsKeyReported limits input.now behind pair }
-    ensures { IfSome result (λ f. (bytes : List ℕ) → input.now ≡ take limits.bytes bytes
-        → IsVerdict limits plain bytes (refused f)) }
+pub(crate) fn repeated_key(input: &[u8], behind: usize, pair: usize, limits: Limits) -> Refusal
+    requires reported { IsKeyReported limits input.now behind pair }
+    requires within { length input.now ≤ limits.bytes }
+    ensures { (bytes : List ℕ) → input.now ≡ take limits.bytes bytes
+        → IsVerdict limits plain bytes (refused result) }
 {
+    // The kinds of these keys were judged before.
+    let limits = limits.with_keys(Keys::Any);
     let pairs = &input[input.len() - behind..];
-    // These items are known to be complete. The walk over them could only fail for memory, and allocates
-    // nothing.
-    let key = past_items(pairs, 2 * pair as u64, limits)?;
-    let rest = past_items(key, 1, limits)?;
+    let key = past_items(pairs, 2 * pair as u64, limits);
+    let rest = past_items(key, 1, limits);
     let at = (input.len() - key.len()) as u64;
     let end = (input.len() - rest.len()) as u64;
-    Some(Refusal::new(Reason::RepeatedKey, at, end))
+    Refusal::new(Reason::RepeatedKey, at, end)
 }
 
 /// The cell of the open map that has this number of open maps around it.

@@ -1,6 +1,6 @@
 //! The sink, which is given the parts of an item.
 
-ghost use Rattle.std.specs.Prelude.{◌≡◌, ◌≤◌, true, false, ℕ, Bool, List, IfOk, IfSome, IsNone, IsUtf8, OnOk, length, take};
+ghost use Rattle.std.specs.Prelude.{◌≡◌, ◌≤◌, true, false, ℕ, Bool, List, IfOk, IfSome, IsNone, IsUtf8, OnOk, OnErr, length, take};
 ghost use Rattle.cbor_head.specs.Head.{IsSimple};
 ghost use Rattle.cbor_head.specs.declared.major.Major.TheVariants as majors;
 ghost use Rattle.cbor_builder.specs.Built.{IsLeaf, IsContainer};
@@ -26,6 +26,9 @@ pub trait Sink<'a> {
     // Whether it is given only what is known to be valid, and so looks for no equal keys.
     ghost trusts: { Bool } = { false };
 
+    // A request of this sink for memory was refused. The default is for a sink that stores no such fact.
+    ghost refused: { Self → Type 0 } = { λ _. Unit {0} };
+
     /// Whether it is given only what is known to be valid. Then texts are not checked for UTF-8 before they
     /// are given.
     fn is_trusting() -> bool
@@ -36,7 +39,8 @@ pub trait Sink<'a> {
         requires kind { IsLeaf major }
         requires simple { major ≡ majors.Simple → IsSimple number }
         requires expected { IsItemExpected Self stands is_key self.old }
-        ensures { OnOk result (Gives Self stands is_key (leaf_value major number) self.old self.new) };
+        ensures given { OnOk result (Gives Self stands is_key (leaf_value major number) self.old self.new) }
+        ensures memory { OnErr result (refused self.new) };
 
     /// A string in one piece, whose content is the first `count` of these bytes.
     fn string(
@@ -49,13 +53,15 @@ pub trait Sink<'a> {
         requires within { count ≤ length prefix.now }
         requires utf8 { is_text ≡ true → IsUtf8 (take count prefix.now) }
         requires expected { IsItemExpected Self stands is_key self.old }
-        ensures { OnOk result (Gives Self stands is_key (string_value is_text (take count prefix.now))
-            self.old self.new) };
+        ensures given { OnOk result (Gives Self stands is_key (string_value is_text (take count prefix.now))
+            self.old self.new) }
+        ensures memory { OnErr result (refused self.new) };
 
     /// A string in chunks begins.
     fn begin_string(&mut self, is_key: bool, is_text: bool) -> Result<(), AllocError>
         requires expected { IsItemExpected Self stands is_key self.old }
-        ensures { OnOk result (BeginsString Self stands holds is_key is_text self.old self.new) };
+        ensures given { OnOk result (BeginsString Self stands holds is_key is_text self.old self.new) }
+        ensures memory { OnErr result (refused self.new) };
 
     /// A chunk of the string, whose content is the first `count` of these bytes.
     fn chunk(
@@ -68,19 +74,22 @@ pub trait Sink<'a> {
         requires within { count ≤ length prefix.now }
         requires utf8 { is_text ≡ true → IsUtf8 (take count prefix.now) }
         requires expected { IsChunkExpected Self holds is_key is_text self.old }
-        ensures { OnOk result (GrowsString Self holds is_key is_text (take count prefix.now)
-            self.old self.new) };
+        ensures given { OnOk result (GrowsString Self holds is_key is_text (take count prefix.now)
+            self.old self.new) }
+        ensures memory { OnErr result (refused self.new) };
 
     /// The string in chunks ends.
     fn end_string(&mut self, is_key: bool, is_text: bool) -> Result<(), AllocError>
         requires expected { IsChunkExpected Self holds is_key is_text self.old }
-        ensures { OnOk result (EndsString Self stands holds is_key is_text self.old self.new) };
+        ensures given { OnOk result (EndsString Self stands holds is_key is_text self.old self.new) }
+        ensures memory { OnErr result (refused self.new) };
 
     /// An array, a map or a tag begins; a tag with its number.
     fn begin(&mut self, is_key: bool, major: Major, number: u64) -> Result<(), AllocError>
         requires kind { IsContainer major }
         requires expected { IsItemExpected Self stands is_key self.old }
-        ensures { OnOk result (Opens Self stands is_key major number self.old self.new) };
+        ensures given { OnOk result (Opens Self stands is_key major number self.old self.new) }
+        ensures memory { OnErr result (refused self.new) };
 
     /// The innermost container ends, a map or not. If two of its keys are equal it does not end, and the
     /// result is what `first_repeat` returns: from the outermost open map in, the first key that is equal to
@@ -90,7 +99,8 @@ pub trait Sink<'a> {
         ensures ends { IfOk result (λ reported. IsNone reported
             → Ends Self stands trusts is_map self.old self.new) }
         ensures repeats { IfOk result (λ reported. IfSome reported
-            (Repeats Self stands trusts is_map self.old)) };
+            (Repeats Self stands trusts is_map self.old)) }
+        ensures memory { OnErr result (refused self.new) };
 
     /// From the outermost open map in, the first key that is equal to an earlier one of its map. None if no
     /// two complete keys are equal. It is called where an item or a chunk of a string is expected; after it,

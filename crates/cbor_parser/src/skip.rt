@@ -1,6 +1,7 @@
 //! Skips items that are known to be valid, and stores nothing of them.
 
-ghost use Rattle.std.specs.Prelude.{◌≡◌, ◌≤◌, ◌^◌, ℕ, true, List, length, IfSome};
+ghost use Rattle.std.specs.Prelude.{◌≡◌, ◌≤◌, ◌^◌, ℕ, true, List, length};
+ghost use Rattle.cbor_head.specs.declared.keys.Keys.TheVariants.{Any};
 ghost use Rattle.cbor_parser.specs.inner.Skip.{anywhere, anything, StandAtStart};
 
 use crate::container::Expected;
@@ -22,6 +23,8 @@ impl<'a> Sink<'a> for Nothing {
     ghost holds = { anything Self };
 
     ghost trusts = { true };
+
+    ghost refused = { λ _. ⊥ };
 
     #[inline(always)]
     fn is_trusting() -> bool {
@@ -81,20 +84,23 @@ impl<'a> Sink<'a> for Nothing {
     }
 }
 
-/// The bytes after this number of items, which are known to be valid.
-pub(crate) fn past_items(items: &[u8], count: u64, limits: Limits) -> Option<&[u8]>
+/// The bytes after this number of items, which are known to be valid; the kinds of their keys are not judged.
+pub(crate) fn past_items(items: &[u8], count: u64, limits: Limits) -> &[u8]
     requires small { length items.now ≤ 2 ^ 62 }
+    requires within { length items.now ≤ limits.bytes }
+    requires any { limits.keys ≡ Any }
     requires items { (behind : List ℕ) × StandAtStart limits.depth items.now count behind }
-    ensures { IfSome result (λ found. (behind : List ℕ) → StandAtStart limits.depth items.now count behind
-        → found.now ≡ behind) }
+    ensures { (behind : List ℕ) → StandAtStart limits.depth items.now count behind
+        → result.now ≡ behind }
 {
     let mut rest = items;
     for _ in 0..count {
         let outermost = OpenContainer::counted(Expected::Item, 0, 0);
         match parse(&mut Parser::new(Nothing), rest, outermost, limits) {
             Ok(behind) => rest = behind,
-            Err(_) => return None,
+            // A valid item is not refused, and this sink requests no memory.
+            Err(_) => unreachable!(),
         }
     }
-    Some(rest)
+    rest
 }

@@ -58,7 +58,7 @@ impl<'a> ItemRules<'a> for StrictRules<'a> {
 
     ghost stops = { Stop };
 
-    ghost refuses = { λ first limits input f. IsRefused first.order limits input f };
+    ghost refuses = { λ first now limits input f. IsRefused first.order limits input f };
 
     #[inline(always)]
     fn take(

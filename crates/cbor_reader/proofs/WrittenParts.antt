@@ -1,11 +1,13 @@
 -- The parts of a value are an encoding of it.
-use Rattle.std.proofs.Common.{◌≡◌, ℕ, suc, ◌+◌, ◌^◌, ◌<◌, ◌≤◌, List, ◌++◌, length, inl, inr, refl, sym, ap, ap₂, ◌∙◌, subst, arith, append-nil}
+use Rattle.std.proofs.Common.{◌≡◌, ℕ, suc, ◌+◌, ◌≤◌, List, ◌++◌, length, inl, inr, refl, sym, ap, ap₂, ◌∙◌, subst, arith, append-nil}
 use Rattle.cbor_head.specs.Value as value
-use Rattle.cbor_head.specs.Prelude.{Bounds, Holds, HoldsOrIndefinite, shortest, head, break_of, Value, Values, Entries, values_count, IsInRange, AreInRange, AreEntriesInRange, IsValid, AreValid, AreEntriesValid, HasBasicKeys, Spelling, Spellings, SpelledEntries, unsigned, negative, bytes, text, array, a_map, tag, simple, no_spellings, a_spelling, no_entries, entry, IsSpelled, AreSpelled, AreEntriesSpelled, spell, spell_all, spell_entries, spellings_count, entries_count, value_of, values_of, entries_of, depth}
+use Rattle.cbor_head.specs.Prelude.{Bounds, shortest, head, break_of, Value, Values, Entries, values_count, IsInRange, AreInRange, AreEntriesInRange, IsValid, AreValid, AreEntriesValid, HasBasicKeys, Spelling, Spellings, SpelledEntries, unsigned, negative, bytes, text, array, a_map, tag, simple, no_spellings, a_spelling, no_entries, entry, IsSpelled, AreSpelled, AreEntriesSpelled, spell, spell_all, spell_entries, spellings_count, entries_count, value_of, values_of, entries_of, depth}
 use Rattle.cbor_head.specs.declared.major.Major.TheVariants as majors
 use Rattle.cbor_head.specs.Prelude.{plain}
-use Rattle.cbor_head.specs.declared.{major.Major.Major, width.Width.Width, width.Width.TheVariants.Indefinite, keys.Keys.TheVariants.IntegersAndTexts}
-use Rattle.theory_values.proofs.{Normal.Holds-shortest, Normal.break_of-shortest, Depth.depth-value_of, BasicKeys.basic_keys}
+use Rattle.cbor_head.specs.declared.{major.Major.Major, keys.Keys.TheVariants.IntegersAndTexts}
+use Rattle.theory_values.proofs.Normal.{Holds-shortest, break_of-shortest}
+use Rattle.theory_values.proofs.Normal.{count_held}
+use Rattle.theory_values.proofs.{Depth.depth-value_of, BasicKeys.basic_keys}
 use Rattle.theory_verdicts.specs.Readers.{IsReadAs}
 use Rattle.cbor_reader.specs.{Written.written, Written.written_all, Written.written_pairs, Headline.IsValidItem, Headline.HasValidTexts, Headline.HaveValidTexts, Headline.EntriesHaveValidTexts}
 use Rattle.cbor_reader.proofs.{Headline.valid_item_accepted, ValidTexts.plain_exactly}
@@ -83,13 +85,6 @@ mutual
   pair_bytes_are (value.entry k v es) = ap₂ (λ (x y : List ℕ). x ++ y) (ap₂ (λ (x y : List ℕ). x ++ y) (bytes_are k) (bytes_are v)) (pair_bytes_are es)
 
 -- ---- it is one, with valid texts
-
-held : (w : Width) (n : ℕ) → Holds w n → HoldsOrIndefinite w n
-held Indefinite n h = absurd h
-held _ n h = h
-
-count_held : (n k : ℕ) → k ≡ n → n < 2 ^ 64 → HoldsOrIndefinite (shortest n) k
-count_held n k e h = subst (HoldsOrIndefinite (shortest n)) (sym e) (held (shortest n) n (Holds-shortest n h))
 
 mutual
   pub spelled : (v : Value) → IsInRange v → IsSpelled (encoding v)

@@ -1,5 +1,5 @@
 -- When two inputs mean the same, and which side is refused (RFC 8949, section 5.6.1).
-use Rattle.std.specs.Prelude.{ℕ, List}
+use Rattle.std.specs.Prelude.{ℕ, Bool, List}
 use Rattle.cbor_head.specs.Prelude.{plain, Bounds, Spelling, value_of, Same}
 use Rattle.cbor_head.specs.declared.reason.Refusal.{Refusal}
 use Rattle.cbor_reader.specs.declared.comparison.Side.{Side, TheVariants.Left, TheVariants.Right}
@@ -9,6 +9,11 @@ use Rattle.cbor_reader.specs.{Headline.IsValidItem, WholeItem.IsWholeItem, Whole
 abbrev pub input_of : Side → List ℕ → List ℕ → List ℕ
 input_of Left left right = left
 input_of Right left right = right
+
+-- what is recorded of the requests for this side
+abbrev pub memory_of : Side → Bool → Bool → Bool
+memory_of Left left right = left
+memory_of Right left right = right
 
 -- both are whole valid items within the limits, of the same value
 pub record MeanTheSame (limits : Bounds) (left right : List ℕ) : Type 0 where

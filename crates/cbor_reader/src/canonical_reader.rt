@@ -1,6 +1,6 @@
 //! The canonical bytes of the item at the start of a slice.
 
-ghost use Rattle.std.specs.Prelude.{◌≢◌, IfOk, IfErr, IsOk};
+ghost use Rattle.std.specs.Prelude.{◌≡◌, ◌≢◌, IfOk, IfErr, IsOk, IsTrue};
 ghost use Rattle.std.specs.Cow.{cow_slice_items, IsBorrowedSlice};
 ghost use Rattle.cbor_head.specs.Complaint.{plain};
 ghost use Rattle.cbor_head.specs.Value.{Value};
@@ -10,6 +10,7 @@ ghost use Rattle.cbor_sinks.specs.BuiltPrefix.{IsBuiltPrefix};
 
 use crate::canonical_probe::probe_canonical;
 use cbor_head::{KeyOrder, Limits, Refusal};
+use cbor_memory::Memory;
 use cbor_sinks::build_prefix;
 use std::alloc::Global;
 use std::borrow::CowSlice;
@@ -36,9 +37,33 @@ pub fn read_canonical<'a>(
     ensures no_read { IfErr result (λ f. f.reason ≢ reasons.Read) }
     ensures memory { IfErr result ReportsMemoryAtStart }
 {
+    read_canonical_in(&mut Memory::new(), alloc, bytes, limits, order)
+}
+
+/// Returns what [`read_canonical`] returns, and records in `memory` whether a request for memory was refused. If none was,
+/// the refusal is not `Memory`.
+#[inline(always)]
+pub fn read_canonical_in<'a>(
+    memory: &mut Memory,
+    alloc: Global,
+    bytes: &'a [u8],
+    limits: Limits,
+    order: KeyOrder,
+) -> Result<(CowSlice<'a, u8>, u64), Refusal>
+    ensures accepted { IfOk result (λ answer.
+        IsBuiltPrefix limits order bytes.now (cow_slice_items answer.0) answer.1) }
+    ensures own { (v : Value) → BeginsWithCanonical limits order bytes.now v → IsOk result }
+    ensures borrowed { (v : Value) → BeginsWithCanonical limits order bytes.now v
+        → IfOk result (λ answer. IsBorrowedSlice answer.0) }
+    ensures refused { IfErr result (λ f. IsUnread limits plain bytes.now f) }
+    ensures no_read { IfErr result (λ f. f.reason ≢ reasons.Read) }
+    ensures memory { IfErr result ReportsMemoryAtStart }
+    ensures request { IfErr result (λ f. f.reason ≡ reasons.Memory → IsTrue memory.new) }
+    ensures kept { IfOk result (λ _. memory.new ≡ memory.old) }
+{
     match probe_canonical(bytes, limits, order)? {
         Some(size) => Ok((CowSlice::Borrowed(&bytes[..size as usize]), size)),
-        None => match build_prefix(alloc, bytes, limits, order) {
+        None => match build_prefix(memory, alloc, bytes, limits, order) {
             Ok(prefix) => Ok((CowSlice::Owned(prefix.canonical), prefix.size)),
             Err(refusal) => Err(refusal),
         },

@@ -1,6 +1,6 @@
 //! The canonical bytes of a whole input.
 
-ghost use Rattle.std.specs.Prelude.{◌≡◌, ◌≢◌, IfOk, IfErr, IsOk, MatchResult};
+ghost use Rattle.std.specs.Prelude.{◌≡◌, ◌≢◌, IfOk, IfErr, IsOk, IsTrue, MatchResult};
 ghost use Rattle.std.specs.Cow.{cow_slice_items, IsBorrowedSlice};
 ghost use Rattle.cbor_head.specs.declared.reason.Reason.TheVariants as reasons;
 ghost use Rattle.theory_verdicts.specs.Readers.{ReportsMemoryAtStart};
@@ -9,6 +9,7 @@ ghost use Rattle.cbor_reader.specs.Headline.{IsAnsweredBy, HasNoAnswer};
 
 use crate::whole_item::encoded_item;
 use cbor_head::{KeyOrder, Limits, Reason, Refusal};
+use cbor_memory::Memory;
 use std::alloc::Global;
 use std::borrow::CowSlice;
 
@@ -38,9 +39,28 @@ pub fn canonicalise(
     ensures equal { IfOk result (λ v. DeterminesItsValue limits.depth order bytes.now v.items) }
     ensures again { IfOk result (λ v. IsCanonicalOf limits order v.items v.items) }
 {
-    match canonical_bytes(alloc, bytes, limits, order)? {
+    canonicalise_in(&mut Memory::new(), alloc, bytes, limits, order)
+}
+
+/// Returns what [`canonicalise`] returns, and records in `memory` whether a request for memory was refused. If none was,
+/// the refusal is not `Memory`.
+pub fn canonicalise_in(
+    memory: &mut Memory,
+    alloc: Global,
+    bytes: &[u8],
+    limits: Limits,
+    order: KeyOrder,
+) -> Result<Vec<u8>, Refusal>
+    ensures answer { MatchResult result
+        (λ v. IsCanonicalOf limits order bytes.now v.items)
+        (λ f. IsRefusal limits order bytes.now f) }
+    ensures memory { IfErr result
+        (λ f. f.reason ≡ reasons.Memory → IsMemoryRefusal limits order bytes.now f) }
+    ensures request { IfErr result (λ f. f.reason ≡ reasons.Memory → IsTrue memory.new) }
+{
+    match canonical_bytes_in(memory, alloc, bytes, limits, order)? {
         CowSlice::Owned(made) => Ok(made),
-        CowSlice::Borrowed(same) => match Vec::from_slice(alloc, same) {
+        CowSlice::Borrowed(same) => match memory.copied(alloc, same) {
             Ok(copy) => Ok(copy),
             Err(_) => Err(Refusal::at(Reason::Memory, bytes.len() as u64)),
         },
@@ -71,11 +91,13 @@ pub fn canonical_bytes<'a>(
     ensures again { IfOk result
         (λ c. IsCanonicalOf limits order (cow_slice_items c) (cow_slice_items c)) }
 {
-    answer(alloc, bytes, limits, order)
+    canonical_bytes_in(&mut Memory::new(), alloc, bytes, limits, order)
 }
 
-// The result; an input that is canonical is borrowed.
-fn answer<'a>(
+/// Returns what [`canonical_bytes`] returns, and records in `memory` whether a request for memory was refused. If none was,
+/// the refusal is not `Memory`.
+pub fn canonical_bytes_in<'a>(
+    memory: &mut Memory,
     alloc: Global,
     bytes: &'a [u8],
     limits: Limits,
@@ -88,8 +110,10 @@ fn answer<'a>(
     ensures borrowed { IsCanonicalOf limits order bytes.now bytes.now
         → IfOk result IsBorrowedSlice }
     ensures memory { IfErr result ReportsMemoryAtStart }
+    ensures request { IfErr result (λ f. f.reason ≡ reasons.Memory → IsTrue memory.new) }
+    ensures kept { IfOk result (λ _. memory.new ≡ memory.old) }
 {
-    let canonical = encoded_item(alloc, bytes, limits, order)?;
+    let canonical = encoded_item(memory, alloc, bytes, limits, order)?;
     if canonical.len() as u64 > limits.bytes() {
         return Err(Refusal::at(Reason::CanonicalTooLong, bytes.len() as u64));
     }

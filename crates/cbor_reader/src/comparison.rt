@@ -7,12 +7,13 @@ ghost use Rattle.cbor_head.specs.declared.order.KeyOrder.TheVariants as orders;
 ghost use Rattle.cbor_head.specs.declared.reason.Reason.TheVariants as reasons;
 ghost use Rattle.theory_verdicts.specs.Readers.{ReportsMemoryAtStart};
 ghost use Rattle.cbor_reader.specs.Canonicalise.{IsCanonicalOf};
-ghost use Rattle.cbor_reader.specs.Comparing.{MeanTheSame, IsSideRefusal, input_of};
+ghost use Rattle.cbor_reader.specs.Comparing.{MeanTheSame, IsSideRefusal, input_of, memory_of};
 ghost use Rattle.cbor_reader.specs.Headline.{IsValidItem};
 ghost use Rattle.cbor_reader.specs.WholeItem.{IsWholeItem};
 
 use crate::whole_item::encoded_item;
 use cbor_head::{KeyOrder, Limits, Refusal};
+use cbor_memory::Memory;
 use std::alloc::Global;
 
 /// One of the two inputs of a comparison.
@@ -57,7 +58,46 @@ pub fn same_meaning(
         → IsWholeItem limits left.now
         → ¬ IsWholeItem limits right.now) }
 {
-    let left_item = match encoded_item(alloc, left, limits, KeyOrder::Bytewise) {
+    let (mut left_memory, mut right_memory) = (Memory::new(), Memory::new());
+    same_meaning_in(
+        &mut left_memory,
+        &mut right_memory,
+        alloc,
+        left,
+        right,
+        limits,
+    )
+}
+
+/// Compares two inputs as [`same_meaning`] does, and records for each whether a request for memory was refused. The
+/// refusal of an input is not `Memory` if none was refused for it.
+pub fn same_meaning_in(
+    left_memory: &mut Memory,
+    right_memory: &mut Memory,
+    alloc: Global,
+    left: &[u8],
+    right: &[u8],
+    limits: Limits,
+) -> Result<bool, (Side, Refusal)>
+    ensures answer { IfOk result (λ same. IsTrue same ↔ MeanTheSame limits left.now right.now) }
+    ensures accepted { IfOk result (λ _. IsWholeItem limits left.now
+        × IsWholeItem limits right.now) }
+    ensures values { IfOk result (λ same. (s t : Spelling)
+        → IsValidItem limits left.now s
+        → IsValidItem limits right.now t
+        → IsTrue same ↔ Same (value_of s) (value_of t)) }
+    ensures refused { IfErr result (λ e. IsSideRefusal limits left.now right.now e.0 e.1) }
+    ensures memory { IfErr result (λ e. ReportsMemoryAtStart e.1) }
+    ensures own { IfErr result (λ e. ¬ IsCanonicalOf limits orders.Bytewise
+        (input_of e.0 left.now right.now) (input_of e.0 left.now right.now)) }
+    ensures equal { IfErr result (λ e. left.now ≡ right.now → e.0 ≡ Side.Left) }
+    ensures only { IfErr result (λ e. e.1.reason ≢ reasons.Memory
+        → IsWholeItem limits left.now
+        → ¬ IsWholeItem limits right.now) }
+    ensures request { IfErr result (λ e. e.1.reason ≡ reasons.Memory
+        → IsTrue (memory_of e.0 left_memory.new right_memory.new)) }
+{
+    let left_item = match encoded_item(left_memory, alloc, left, limits, KeyOrder::Bytewise) {
         Ok(bytes) => bytes,
         Err(refusal) => return Err((Side::Left, refusal)),
     };
@@ -69,7 +109,7 @@ pub fn same_meaning(
     if is_within(right, left_item.as_slice(), limits.bytes()) {
         return Ok(true);
     }
-    let right_item = match encoded_item(alloc, right, limits, KeyOrder::Bytewise) {
+    let right_item = match encoded_item(right_memory, alloc, right, limits, KeyOrder::Bytewise) {
         Ok(bytes) => bytes,
         Err(refusal) => return Err((Side::Right, refusal)),
     };

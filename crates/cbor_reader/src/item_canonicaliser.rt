@@ -8,6 +8,7 @@ ghost use Rattle.cbor_sinks.specs.BuiltPrefix.{IsBuiltPrefix};
 
 use crate::canonical_probe::{CanonicalProbe, probe_canonical};
 use cbor_head::{KeyOrder, Limits, Refusal};
+use cbor_memory::Memory;
 use cbor_sinks::PrefixBuilder;
 use std::alloc::Global;
 
@@ -49,6 +50,7 @@ impl ItemCanonicaliser {
                 None => self.looks.failed(),
             }
         }
-        self.prefixes.build(bytes, limits, order)
+        self.prefixes
+            .build(&mut Memory::new(), bytes, limits, order)
     }
 }

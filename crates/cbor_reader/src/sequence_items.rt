@@ -11,6 +11,7 @@ ghost use Rattle.cbor_reader.specs.Sequence.{SequenceItemsView, IfGiven, IfRefus
 use cbor_events::ItemEvents;
 use cbor_head::{KeyOrder, Limits, Reason, Refusal};
 use cbor_item::Tree;
+use cbor_memory::Memory;
 use cbor_strict::{StrictEvents, read_strict_by};
 use cbor_tree_reader::read_tree_by;
 use std::alloc::Global;
@@ -81,7 +82,13 @@ impl SequenceItems {
         if self.finished {
             return None;
         }
-        match read_tree_by(self.alloc, &mut self.events, reader, self.limits) {
+        match read_tree_by(
+            &mut Memory::new(),
+            self.alloc,
+            &mut self.events,
+            reader,
+            self.limits,
+        ) {
             Ok((tree, _count)) => Some(Ok(tree)),
             Err(refusal) => last(&mut self.finished, refusal),
         }

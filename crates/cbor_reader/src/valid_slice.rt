@@ -1,6 +1,6 @@
 //! The item at the start of a slice, if it is valid.
 
-ghost use Rattle.std.specs.Prelude.{◌≢◌, IfOk, IfErr, IsOk};
+ghost use Rattle.std.specs.Prelude.{◌≡◌, ◌≢◌, IfOk, IfErr, IsOk, IsTrue};
 ghost use Rattle.cbor_head.specs.Complaint.{plain};
 ghost use Rattle.cbor_head.specs.Value.{Value};
 ghost use Rattle.cbor_head.specs.declared.order.KeyOrder.TheVariants as orders;
@@ -9,6 +9,7 @@ ghost use Rattle.theory_verdicts.specs.Readers.{BeginsWithCanonical, IsRead, IsU
 
 use crate::canonical_probe::probe_canonical;
 use cbor_head::{KeyOrder, Limits, Refusal};
+use cbor_memory::Memory;
 use cbor_parser::Parser;
 use cbor_sinks::KeyBytes;
 use std::alloc::Global;
@@ -28,24 +29,52 @@ pub fn check_valid(alloc: Global, bytes: &[u8], limits: Limits) -> Result<u64, R
     ensures no_read { IfErr result (λ f. f.reason ≢ reasons.Read) }
     ensures memory { IfErr result ReportsMemoryAtStart }
 {
+    check_valid_in(&mut Memory::new(), alloc, bytes, limits)
+}
+
+/// Checks an item as [`check_valid`] does, and records in `memory` whether a request for memory was refused. If none was,
+/// the refusal is not `Memory`.
+pub fn check_valid_in(
+    memory: &mut Memory,
+    alloc: Global,
+    bytes: &[u8],
+    limits: Limits,
+) -> Result<u64, Refusal>
+    ensures accepted { IfOk result (λ count. IsRead limits plain bytes.now count) }
+    ensures own { (v : Value) → BeginsWithCanonical limits orders.Bytewise bytes.now v
+        → IsOk result }
+    ensures refused { IfErr result (λ f. IsUnread limits plain bytes.now f) }
+    ensures no_read { IfErr result (λ f. f.reason ≢ reasons.Read) }
+    ensures memory { IfErr result ReportsMemoryAtStart }
+    ensures request { IfErr result (λ f. f.reason ≡ reasons.Memory → IsTrue memory.new) }
+{
     match probe_canonical(bytes, limits, KeyOrder::Bytewise)? {
         Some(size) => Ok(size),
-        None => valid_size(alloc, bytes, limits),
+        None => valid_size(memory, alloc, bytes, limits),
     }
 }
 
 // The size in bytes of a valid item that is not canonical. Not inlined, so that a canonical item needs no space on the
 // stack for keys.
 #[inline(never)]
-fn valid_size(alloc: Global, bytes: &[u8], limits: Limits) -> Result<u64, Refusal>
+fn valid_size(
+    memory: &mut Memory,
+    alloc: Global,
+    bytes: &[u8],
+    limits: Limits,
+) -> Result<u64, Refusal>
     ensures accepted { IfOk result (λ count. IsRead limits plain bytes.now count) }
     ensures refused { IfErr result (λ f. IsUnread limits plain bytes.now f) }
     ensures no_read { IfErr result (λ f. f.reason ≢ reasons.Read) }
     ensures memory { IfErr result ReportsMemoryAtStart }
+    ensures request { IfErr result (λ f. f.reason ≡ reasons.Memory → IsTrue memory.new) }
 {
     let mut building = Parser::new(KeyBytes::new(alloc));
     match building.parse_item(bytes, limits) {
         Ok(size) => Ok(size),
-        Err(refusal) => Err(refusal),
+        Err(refusal) => {
+            memory.include(building.sink.memory());
+            Err(refusal)
+        }
     }
 }

@@ -15,7 +15,7 @@ ghost use Rattle.cbor_item.specs.ViewValue.{view_value};
 
 use crate::view_sink::ViewSink;
 use bumpalo::Bump;
-use cbor_head::{Limits, Reason, Refusal};
+use cbor_head::{Limits, Refusal};
 use cbor_item::View;
 use cbor_parser::Parser;
 use std::alloc::Global;
@@ -78,7 +78,7 @@ pub fn whole_view<'a>(
     match read_view(alloc, bytes, limits, arena) {
         Ok((view, size)) => {
             if size < bytes.len() as u64 {
-                return Err(Refusal::at(Reason::Trailing, size));
+                return Err(Refusal::trailing(size));
             }
             Ok(view)
         }

@@ -17,6 +17,7 @@ use bumpalo::Bump;
 use cbor_builder::Repeat;
 use cbor_head::Major;
 use cbor_item::{Joined, View, ViewBuilder};
+use cbor_memory::Memory;
 use cbor_parser::Sink;
 use cbor_sinks::KeyBytes;
 use std::alloc::{AllocError, Global};
@@ -103,7 +104,7 @@ impl<'a> Sink<'a> for ViewSink<'a> {
         prefix: &'a [u8],
         count: usize,
     ) -> Result<(), AllocError> {
-        self.joined.extend_prefix(prefix, count)
+        self.joined.extend_prefix(&mut Memory::new(), prefix, count)
     }
 
     #[inline(always)]

@@ -13,6 +13,7 @@ mod keys;
 mod keys_table;
 mod promises;
 mod refusals_table;
+mod requests;
 mod sequence;
 mod sizes;
 mod thresholds;
@@ -54,8 +55,7 @@ pub(crate) enum BadHex {
     Memory,
 }
 
-// The bytes that pairs of hex digits stand for, with white space between them. `3*00` stands for
-// 000000.
+// The bytes of pairs of hex digits with white space between them. `3*00` means `000000`.
 pub(crate) fn bytes_of(alloc: Global, text: &str) -> Result<Vec<u8>, BadHex> {
     let mut bytes = Vec::new(alloc);
     for word in text.split_whitespace() {

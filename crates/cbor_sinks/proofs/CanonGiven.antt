@@ -121,9 +121,9 @@ pub ends-if : (trusts : Bool) {E : Type 0} (r : Result (Option Repeat) E) (t : B
 ends-if trusts (Ok reported) t old new x y = λ none. ended t old new (x.0 none) (y none)
 ends-if trusts (Err e) t old new x y = tt
 
-pub repeats-if : {E : Type 0} (r : Result (Option Repeat) E) (P Q : Repeat → Type 0) → ((repeat : Repeat) → P repeat → Q repeat) → IfOk r (λ reported. IfSome reported P) → IfOk r (λ reported. IfSome reported Q)
-repeats-if (Ok (Some repeat)) P Q f h = f repeat h
-repeats-if _ P Q f h = tt
+pub repeats-if : {E : Type 0} (r : Result (Option Repeat) E) (D : Type 0) (P Q : Repeat → Type 0) → ((repeat : Repeat) → P repeat → (D → ⊥) → Q repeat) → IfOk r (λ reported. IsNone reported ↔ D) → IfOk r (λ reported. IfSome reported P) → IfOk r (λ reported. IfSome reported Q)
+repeats-if (Ok (Some repeat)) D P Q f d h = f repeat h (λ x. cc (d.1 x))
+repeats-if _ D P Q f d h = tt
 
 -- ---- strings in chunks
 

@@ -32,14 +32,14 @@ key-takes k b g new (start, d, ls, space, at) keeps is none =
 pub few : (k : Bool) (g : KeyBytes) → IsItemExpected KeyBytes keys_stand k g → g.inside < 2 ^ 63
 few k g (start, d, ls, space, at) = let short = space.short in omega (arith, at.0.1, inside-few ls, short)
 
-given : (k : Bool) (v : Value) (b : List ℕ) (old new : KeyBytes) → ((o : KeyOrder) → canonical o v ≡ b) → new.builder ≡ built old.builder.order (with_item old.inside k b old.builder.open_levels) → new.inside ≡ old.inside
+given : (k : Bool) (v : Value) (b : List ℕ) (old new : KeyBytes) → ((o : KeyOrder) → canonical o v ≡ b) → new.builder.order ≡ old.builder.order → new.builder.open_levels ≡ with_item old.inside k b old.builder.open_levels → new.inside ≡ old.inside
     → Gives KeyBytes keys_stand k v old new
-given k v b old new same is stays start d ls s at done e =
+given k v b old new same order is stays start d ls s at done e =
     let o = old.builder.order in
     let bytes : b ≡ canonical o (value_of s) = sym (same o) ∙ ap (canonical o) (sym e) in
     let reported : with_item old.inside k b old.builder.open_levels ≡ with_item (inside ls) (key_expected ls) (canonical o (value_of s)) (kept_all o ls) = λ i. with_item (at.0.1 i) (at.1 i) (bytes i) (at.0.0 i) in
-    stands-by o new.builder.order _ new.builder.open_levels _ new.inside (settle ls s) (ap (λ (x : Built). x.order) is)
-    (ap (λ (x : Built). x.open_levels) is ∙ reported) (stays ∙ at.0.1)
+    stands-by o new.builder.order _ new.builder.open_levels _ new.inside (settle ls s) order
+    (is ∙ reported) (stays ∙ at.0.1)
     (item-kept o d ls s done.levels done.taken (omega (arith, done.short)))
 
 -- it is stored
@@ -54,11 +54,11 @@ with-left _ _ b os e = absurd (false≢true (sym e))
 pub given-kept : (k : Bool) (v : Value) (b : List ℕ) (old new : KeyBytes) (mid : Built) → ((o : KeyOrder) → canonical o v ≡ b) → is_kept old.inside k ≡ true → mid ≡ built old.builder.order (give b old.builder.open_levels)
     → new.builder ≡ built mid.order (behind_item old.inside mid.open_levels) → new.inside ≡ old.inside → Gives KeyBytes keys_stand k v old new
 given-kept k v b old new mid same keeps is behind stays =
-    given k v b old new same
-    (behind ∙ ap (λ (x : Built). built x.order (behind_item old.inside x.open_levels)) is ∙ ap (built old.builder.order) (with-kept old.inside k b old.builder.open_levels keeps)) stays
+    let all = behind ∙ ap (λ (x : Built). built x.order (behind_item old.inside x.open_levels)) is ∙ ap (built old.builder.order) (with-kept old.inside k b old.builder.open_levels keeps) in
+    given k v b old new same (ap (λ (x : Built). x.order) all) (ap (λ (x : Built). x.open_levels) all) stays
 
 pub given-left : (k : Bool) (v : Value) (b : List ℕ) (old : KeyBytes) → ((o : KeyOrder) → canonical o v ≡ b) → is_kept old.inside k ≡ false → Gives KeyBytes keys_stand k v old old
-given-left k v b old same lacks = given k v b old old same (ap (built old.builder.order) (with-left old.inside k b old.builder.open_levels lacks)) refl
+given-left k v b old same lacks = given k v b old old same refl (with-left old.inside k b old.builder.open_levels lacks) refl
 
 -- ---- containers
 

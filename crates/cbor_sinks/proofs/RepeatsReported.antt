@@ -1,16 +1,16 @@
 -- The repeated key that a builder reports of what it holds of an item is the one of all of its open maps.
-use Rattle.std.proofs.Common.{◌≡◌, ℕ, suc, Bool, true, false, List, [], ◌∷◌, ◌++◌, refl, ap, ◌∙◌, subst, inl, inr, arith}
+use Rattle.std.proofs.Common.{◌≡◌, ℕ, suc, Bool, true, false, List, [], ◌∷◌, ◌++◌, ◌⊎◌, ◌<◌, refl, sym, ap, ◌∙◌, subst, inl, inr, arith}
 use Rattle.cbor_head.specs.Spelling as spelling
 use Rattle.cbor_head.specs.{Prelude.Spelling, declared.order.KeyOrder.KeyOrder}
-use Rattle.theory_values.specs.Parts.{Open, a_map, a_key, a_string}
+use Rattle.theory_values.specs.Parts.{Open, a_map, a_key, a_string, HasNoRepeats}
 use Rattle.theory_values.specs.Parts as parts
-use Rattle.cbor_builder.specs.Built.{keys_so_far, open_maps, AreOpenKeysDifferent, IsFirstRepeat, IsRepeatReported}
+use Rattle.cbor_builder.specs.Built.{keys_so_far, open_maps, AreOpenKeysDifferent, IsFirstRepeat, IsRepeatReported, HasDistinctKeysSoFar}
 use Rattle.cbor_builder.specs.declared.repeat.Repeat.{Repeat}
 use Rattle.theory_verdicts.specs.Given.{level_open, opens, full_open, IsHeldAs, IsNoMap}
 use Rattle.theory_verdicts.specs.{Levels.Level, Reading.string_major}
-use Rattle.cbor_parser.specs.Sink.{FindsRepeat, Repeats}
+use Rattle.cbor_parser.specs.Sink.{FindsRepeat, IsKeyless, Repeats}
 use Rattle.cbor_sinks.proofs.KeysApart.{bare-keys, waiting-keys, all-apart}
-use Rattle.cbor_sinks.specs.KeyBytes.{in_key, bare_pairs, kept, kept_all, keys_stand, keys_hold}
+use Rattle.cbor_sinks.specs.KeyBytes.{is_open_map, one_more, inside, in_key, bare_pairs, kept, kept_all, keys_stand, keys_hold}
 use Rattle.cbor_sinks.{proofs.CanonGiven.stands-full, proofs.KeysGiven.full-at, specs.CanonSink.sink_stands, specs.CanonSink.sink_holds}
 use Rattle.cbor_sinks.specs.declared.{canonical_sink.CanonicalSink.CanonicalSink, key_bytes.KeyBytes.KeyBytes}
 
@@ -76,6 +76,23 @@ within-reported o ls c outside pair h = kept-reported (kept_all o ls) (opens o l
 
 -- ---- of the sinks
 
+no-map-distinct : (c : Open) → IsNoMap c → HasNoRepeats c
+no-map-distinct (a_map ps) h = absurd h
+no-map-distinct _ h = tt
+
+-- of a container without keys no two are equal
+keyless-distinct : (o : KeyOrder) (t : Bool) (c : Open) (s : Spelling) (os : List Open) → IsHeldAs o c s → IsKeyless s → (t ≡ true) ⊎ (is_open_map c ≡ true) → HasDistinctKeysSoFar (kept t c os)
+keyless-distinct o t c (spelling.a_map w spelling.no_entries) os h k e = subst (λ (x : Open). HasDistinctKeysSoFar (kept t x os)) (sym h) (empty t)
+  where
+    empty : (u : Bool) → HasDistinctKeysSoFar (kept u (a_map []) os)
+    empty true = tt
+    empty false = tt
+keyless-distinct o t c (spelling.a_map w (spelling.entry k v es)) os h none e = absurd none
+keyless-distinct o true c _ os h k e = no-map-distinct c h
+keyless-distinct o false (a_map ps) _ os h k e = absurd h
+keyless-distinct o false c _ os h k (inl e) = absurd (cc e)
+keyless-distinct o false _ _ os h k (inr e) = absurd (cc e)
+
 module _ (g : CanonicalSink) (repeat : Repeat) (h : IsRepeatReported g.builder.open_levels repeat.outside repeat.pair) where
   abbrev in-canon : List Open → Type 0
   in-canon os = IsRepeatReported os repeat.outside repeat.pair
@@ -86,11 +103,13 @@ module _ (g : CanonicalSink) (repeat : Repeat) (h : IsRepeatReported g.builder.o
       let o = start.builder.order in
       (o, around-reported (a_string (string_major is_text) content) (opens o ls) repeat.outside repeat.pair refl (subst in-canon at.1 h))
 
-  pub canon-repeats : (trusts t : Bool) → Repeats CanonicalSink sink_stands trusts t g repeat
-  canon-repeats trusts t start d ls s fills full =
+  pub canon-repeats : (HasDistinctKeysSoFar g.builder.open_levels → ⊥) → (trusts t : Bool) → Repeats CanonicalSink sink_stands trusts t g repeat
+  canon-repeats differ trusts t start d ls s fills full =
       let o = start.builder.order in
-      let at = (stands-full t start g d ls s fills full).1 in
-      (o, full-reported o at.1 s (opens o ls) repeat.outside repeat.pair at.2.held (subst in-canon at.3 h))
+      let at = (stands-full t start g d ls s fills full).1 in (
+        (o, full-reported o at.1 s (opens o ls) repeat.outside repeat.pair at.2.held (subst in-canon at.3 h)),
+        λ keyless. differ (subst HasDistinctKeysSoFar (sym at.3) (keyless-distinct o true at.1 s (opens o ls) at.2.held keyless (inl refl))),
+      )
 
 module _ (g : KeyBytes) (repeat : Repeat) (h : IsRepeatReported g.builder.open_levels repeat.outside repeat.pair) where
   abbrev in-keys : List Open → Type 0
@@ -103,8 +122,15 @@ module _ (g : KeyBytes) (repeat : Repeat) (h : IsRepeatReported g.builder.open_l
       let c = a_string (string_major is_text) content in
       (o, around-reported c (opens o ls) repeat.outside repeat.pair refl (within-reported o ls c repeat.outside repeat.pair (subst in-keys at.0 h)))
 
-  pub keys-repeat : (t : Bool) → Repeats KeyBytes keys_stand false t g repeat
-  keys-repeat t start d ls s fills full =
+  pub keys-repeat : (HasDistinctKeysSoFar g.builder.open_levels → ⊥) → (t : Bool) → (0 < g.inside) ⊎ (t ≡ true) → Repeats KeyBytes keys_stand false t g repeat
+  keys-repeat differ t within start d ls s fills full =
       let o = g.builder.order in
-      let at = (full-at t d start g ls s fills full).0 in
-      (o, full-reported o at.1 s (opens o ls) repeat.outside repeat.pair at.2.held (within-reported o ls at.1 repeat.outside repeat.pair (subst in-keys at.4 h)))
+      let (at, kind) = full-at t d start g ls s fills full in
+      let stored : (in_key ls ≡ true) ⊎ (is_open_map at.1 ≡ true) = elim within [ inl some ↦ inl (in-a-key (in_key ls) (inside ls) some at.5) | inr map ↦ inr (at.3 ∙ sym kind ∙ map) ] in (
+        (o, full-reported o at.1 s (opens o ls) repeat.outside repeat.pair at.2.held (within-reported o ls at.1 repeat.outside repeat.pair (subst in-keys at.4 h))),
+        λ keyless. differ (subst HasDistinctKeysSoFar (sym at.4) (keyless-distinct o (in_key ls) at.1 s (kept_all o ls) at.2.held keyless stored)),
+      )
+    where
+      in-a-key : (u : Bool) (n : ℕ) → 0 < g.inside → g.inside ≡ one_more u n → u ≡ true
+      in-a-key true n some e = refl
+      in-a-key false n some e = absurd (omega (arith, some, e))

@@ -79,3 +79,7 @@ keys_stand start g st = KeepsAt g.builder.order g.builder.open_levels g.inside s
 abbrev pub keys_hold : KeyBytes → KeyBytes → List Level → Bool → List ℕ → Type 0
 keys_hold start g ls is_text content =
     (g.builder.open_levels ≡ kept (in_key ls) (a_string (string_major is_text) content) (kept_all g.builder.order ls)) × (g.inside ≡ inside ls)
+
+-- a request for memory was refused
+abbrev pub keys_refused : KeyBytes → Bool
+keys_refused g = g.builder.refused

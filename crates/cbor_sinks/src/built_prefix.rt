@@ -1,6 +1,6 @@
 //! The canonical bytes of the valid item at the start of a slice.
 
-ghost use Rattle.std.specs.Prelude.{◌≢◌, IfOk, IfErr};
+ghost use Rattle.std.specs.Prelude.{◌≡◌, ◌≢◌, IfOk, IfErr, IsTrue};
 ghost use Rattle.cbor_head.specs.Complaint.{plain};
 ghost use Rattle.cbor_head.specs.declared.reason.Reason.TheVariants as reasons;
 ghost use Rattle.theory_verdicts.specs.Readers.{IsUnread, ReportsMemoryAtStart};
@@ -8,6 +8,7 @@ ghost use Rattle.cbor_sinks.specs.BuiltPrefix.{IsBuiltPrefix};
 
 use crate::canonical_sink::CanonicalSink;
 use cbor_head::{KeyOrder, Limits, Refusal};
+use cbor_memory::Memory;
 use cbor_parser::Parser;
 use std::alloc::Global;
 
@@ -20,12 +21,14 @@ pub struct BuiltPrefix {
 
 /// The canonical bytes, in this order and of any length, of the well-formed, valid item that the
 /// slice begins with (RFC 8949, sections 3, 4.2 and 5.3.1), within the limits; else its refusal.
+/// `memory` records whether a request was refused, and the refusal is `Memory` only then.
 ///
 /// It reads the bytes once, without recursion; if a key is repeated, it reads its map once more, up
 /// to that key. It is not inlined, so that a caller that first checks for canonical bytes has no
 /// space on its stack for the walk.
 #[inline(never)]
 pub fn build_prefix(
+    memory: &mut Memory,
     alloc: Global,
     bytes: &[u8],
     limits: Limits,
@@ -36,6 +39,8 @@ pub fn build_prefix(
     ensures refused { IfErr result (λ f. IsUnread limits plain bytes.now f) }
     ensures no_read { IfErr result (λ f. f.reason ≢ reasons.Read) }
     ensures memory { IfErr result ReportsMemoryAtStart }
+    ensures request { IfErr result (λ f. f.reason ≡ reasons.Memory → IsTrue memory.new) }
+    ensures kept { IfOk result (λ _. memory.new ≡ memory.old) }
 {
     let mut building = Parser::new(CanonicalSink::new(alloc, order));
     match building.parse_item(bytes, limits) {
@@ -43,7 +48,10 @@ pub fn build_prefix(
             canonical: building.sink.builder.finish(),
             size,
         }),
-        Err(refusal) => Err(refusal),
+        Err(refusal) => {
+            memory.include(building.sink.builder.memory());
+            Err(refusal)
+        }
     }
 }
 
@@ -65,6 +73,7 @@ impl PrefixBuilder {
     /// sink.
     pub fn build(
         &mut self,
+        memory: &mut Memory,
         bytes: &[u8],
         limits: Limits,
         order: KeyOrder,
@@ -74,11 +83,16 @@ impl PrefixBuilder {
         ensures refused { IfErr result (λ f. IsUnread limits plain bytes.now f) }
         ensures no_read { IfErr result (λ f. f.reason ≢ reasons.Read) }
         ensures memory { IfErr result ReportsMemoryAtStart }
+        ensures request { IfErr result (λ f. f.reason ≡ reasons.Memory → IsTrue memory.new) }
+        ensures kept { IfOk result (λ _. memory.new ≡ memory.old) }
     {
         self.building.sink.clear(order);
         match self.building.parse_item(bytes, limits) {
             Ok(size) => Ok((self.building.sink.builder.as_slice(), size)),
-            Err(refusal) => Err(refusal),
+            Err(refusal) => {
+                memory.include(self.building.sink.builder.memory());
+                Err(refusal)
+            }
         }
     }
 }

@@ -1,6 +1,6 @@
 //! A builder of canonical bytes as a sink of the slice parser.
 
-ghost use Rattle.std.specs.Prelude.{◌≡◌, []};
+ghost use Rattle.std.specs.Prelude.{◌≡◌, [], IsTrue};
 ghost use Rattle.theory_verdicts.specs.Levels.{item_expected};
 ghost use Rattle.theory_verdicts.specs.Reading.{string_major};
 ghost use Rattle.cbor_sinks.specs.CanonSink.{sink_stands, sink_holds};
@@ -40,6 +40,8 @@ impl<'a> Sink<'a> for CanonicalSink {
     ghost stands = { sink_stands };
 
     ghost holds = { sink_holds };
+
+    ghost refused = { λ sink. IsTrue sink.builder.refused };
 
     #[inline(always)]
     fn is_trusting() -> bool {

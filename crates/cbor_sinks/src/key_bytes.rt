@@ -1,15 +1,16 @@
 //! The canonical bytes of the keys of an item, and of nothing else.
 
-ghost use Rattle.std.specs.Prelude.{◌≡◌, ◌<◌, [], false, IfOk, IfSome, IsNone, OnOk};
+ghost use Rattle.std.specs.Prelude.{◌≡◌, ◌<◌, [], false, IfOk, IfSome, IsNone, IsTrue, OnOk, OnErr};
 ghost use Rattle.cbor_builder.specs.Built.{built, TakesPart};
 ghost use Rattle.theory_verdicts.specs.Levels.{item_expected};
-ghost use Rattle.cbor_sinks.specs.KeyBytes.{is_kept, behind_item, keys_stand, keys_hold};
+ghost use Rattle.cbor_sinks.specs.KeyBytes.{is_kept, behind_item, keys_stand, keys_hold, keys_refused};
 ghost use Rattle.cbor_sinks.specs.declared.key_bytes.KeyBytes.{KeyBytes};
 ghost use Rattle.cbor_parser.specs.Sink.{IsContainerFull, Ends, Repeats};
 
 use crate::canonical_sink::string_type;
 use cbor_builder::{CanonBuilder, Repeat};
 use cbor_head::{KeyOrder, Major};
+use cbor_memory::Memory;
 use cbor_parser::Sink;
 use std::alloc::{AllocError, Global};
 
@@ -41,6 +42,13 @@ impl KeyBytes {
         self.inside = 0;
     }
 
+    /// Whether a request of this sink was refused.
+    pub fn memory(&self) -> &Memory
+        ensures { result.now ≡ keys_refused self.now }
+    {
+        self.builder.memory()
+    }
+
     // Whether the next item is stored: it is within a key, or `is_key` says that it is one.
     #[inline(always)]
     fn keeps(&self, is_key: bool) -> bool
@@ -56,8 +64,9 @@ impl KeyBytes {
     fn settle(&mut self) -> Result<(), AllocError>
         requires { self.old.inside ≡ 0 → TakesPart self.old.builder.open_levels }
         ensures inside { self.new.inside ≡ self.old.inside }
-        ensures builder { OnOk result (self.new.builder
+        ensures builder { OnOk result (self.old.builder.refused ≡ false → self.new.builder
             ≡ built self.old.builder.order (behind_item self.old.inside self.old.builder.open_levels)) }
+        ensures memory { OnErr result (IsTrue self.new.builder.refused) }
     {
         if self.inside == 0 {
             self.builder.nothing()?;
@@ -74,6 +83,7 @@ impl KeyBytes {
             → Ends KeyBytes keys_stand false is_map self.old self.new) }
         ensures repeats { IfOk result (λ reported. IfSome reported
             (Repeats KeyBytes keys_stand false is_map self.old)) }
+        ensures memory { OnErr result (IsTrue self.new.builder.refused) }
     {
         if let Some(repeat) = self.builder.end_if_distinct()? {
             return Ok(Some(repeat));
@@ -88,6 +98,8 @@ impl<'a> Sink<'a> for KeyBytes {
     ghost stands = { keys_stand };
 
     ghost holds = { keys_hold };
+
+    ghost refused = { λ keys. IsTrue (keys_refused keys) };
 
     #[inline(always)]
     fn is_trusting() -> bool {

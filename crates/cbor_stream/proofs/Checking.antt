@@ -96,6 +96,27 @@ module _ (old now new : StrictMachineView) (input : List ℕ) (used more : ℕ) 
     complete = λ is live. absurd (subst IsEvent (done_so (outs.Event ev) done is live).0 tt);
   }
 
+  -- an item at once
+  pub checked_item : ((t : List ℕ) (ms : List Mark) → StandsAmid now t ms → (ns : List Mark) × StandsAmid new (t ++ take more (rest_from used input)) ns) → now.refusal ≡ None → ¬ IsComplete now.machine → IsChecked old new input (used + more)
+  checked_item stands live unfinished = record {
+    within = within_so;
+    taken = taken_so;
+    depth = limits.depth ∙ h.depth;
+    bytes = limits.bytes ∙ h.bytes;
+    order = order ∙ h.order;
+    keys = keys ∙ h.keys;
+    runs = λ t ms k.
+        let r = h.runs t ms k in
+        let s = stands (t ++ take used input) r.0 r.1 in
+        (s.0, subst (λ (x : List ℕ). StandsAmid new x s.0) (along t) s.1);
+    same = not_refused old.refusal refl h.same;
+    complete = λ is l. let k = h.complete is l in absurd (unfinished (subst (λ (v : StrictMachineView). IsComplete v.machine) (sym k.0) is));
+  }
+    where
+      not_refused : (o : Option Refusal) → old.refusal ≡ o → IfSome o (λ f. (now ≡ old) × (used ≡ 0)) → IfSome o (λ f. (new ≡ old) × (used + more ≡ 0))
+      not_refused None e x = tt
+      not_refused (Some f) e x = absurd (let two : Some f ≡ None = sym e ∙ sym (ap (λ (v : StrictMachineView). v.refusal) x.0) ∙ live in cc two)
+
   -- what is no event
   pub checked_out : (out : Out) → ((ev : Event) → out ≡ outs.Event ev → ⊥) → ((t : List ℕ) (ms : List Mark) → StandsAmid now t ms → IsStrictAnswer out new t (take more (rest_from used input)) ms) → (IsMore out → 0 < wanted new.machine) → IfRefused out (λ f. IsStrictReason now.order f.reason)
       → (t : List ℕ) (ms : List Mark) → StandsAmid old t ms → Says out new (t ++ take (used + more) input)

@@ -1,9 +1,8 @@
 -- The kind of a key, by its first byte, wherever the bytes are cut.
-use Rattle.std.proofs.Common.{◌≡◌, ℕ, zero, ◌/◌, ◌<◌, ◌⊎◌, Bool, true, Some, List, [], ◌∷◌, ◌++◌, length, sym, ap, ◌∙◌, subst, inl, inr, arith, append-nil, append_assoc, length-append, IsTrue}
+use Rattle.std.proofs.Common.{◌≡◌, ℕ, ◌/◌, ◌<◌, ◌⊎◌, Bool, true, Some, List, [], ◌∷◌, ◌++◌, length, sym, ap, ◌∙◌, subst, inl, inr, arith, append-nil, append_assoc, length-append, IsTrue}
 use Rattle.cbor_head.specs.{declared.event.EventKind.EventKind, Prelude.Bounds, Prelude.AreBytes, declared.width.Width.Width, declared.reason.Refusal.Refusal}
 use Rattle.theory_values.specs.FirstBytes.{is_basic}
-use Rattle.theory_automaton.specs.Automaton.{indefinite_map, State, at_item, in_head, in_simple, in_payload, run, reached}
-use Rattle.theory_automaton.{specs.Trace.Mark, specs.Bytes.IsEventBytes, proofs.Taking.IsClear}
+use Rattle.theory_automaton.{specs.Automaton.run, specs.Automaton.reached, specs.Trace.Mark, specs.Bytes.IsEventBytes, proofs.Events.no-silent-break}
 use Rattle.cbor_machine.specs.declared.step.Out.TheVariants as outs
 use Rattle.cbor_machine.specs.{State.state_of, Steps.Ran, Steps.IsStep, MachineView.MachineView, NextEvent.StandsBetween, NextKey.IsBasicKind}
 use Rattle.cbor_machine.proofs.NextEvents.{whole-clear}
@@ -11,14 +10,6 @@ use Rattle.cbor_events.proofs.Keys.{basic-kind}
 use Rattle.theory_verdicts.specs.Kinds.{HasBasicPrefix}
 use Rattle.cbor_strict.specs.declared.open_items.OpenItems.{OpenItems}
 use Rattle.cbor_stream.specs.inner.Amid.{IsAmid, asks_of}
-
--- a break reports something, or is refused
-no_silent_break : (d : ℕ) (q u : State) → IsClear q → run d q (0xff ∷ []) ≡ reached u [] → ⊥
-no_silent_break d (at_item (indefinite_map true ∷ fs)) u c e = cc e
-no_silent_break d (in_head chunk m w k acc fs) u c e = c
-no_silent_break d (in_simple fs) u c e = c
-no_silent_break d (in_payload chunk m zero fs) u c e = cc e
-no_silent_break d _ u c e = cc e
 
 -- ---- how what is taken begins
 
@@ -59,7 +50,7 @@ module _ (m new : MachineView) (v : OpenItems) (b : Bounds) (t bs : List ℕ) (m
       let q = state_of m.inner.position m.inner.frames in
       let s = a.led u ns h.stands in
       let whole = h.whole ∙ ap length (sym (append-nil u) ∙ ap (λ (x : List ℕ). u ++ x) (sym f.none)) in
-      no_silent_break m.depth q (state_of new.inner.position new.inner.frames) (whole-clear m.depth (u ++ a.since) q ns s.inner.ran whole)
+      no-silent-break m.depth q (state_of new.inner.position new.inner.frames) (whole-clear m.depth (u ++ a.since) q ns s.inner.ran whole)
       (subst (λ (x : List ℕ). run m.depth q x ≡ reached (state_of new.inner.position new.inner.frames) []) (f.alone ∙ ap (λ (n : ℕ). n ∷ []) e) ran.ran)
 
   -- more is needed

@@ -8,3 +8,4 @@ pub mod Offers
 pub mod Said
 pub mod Starts
 pub mod Steps
+pub mod WholeItems

@@ -1,10 +1,9 @@
 -- What is given to the machine: the first byte of a key whose kind is judged alone, or what is no such byte.
-use Rattle.std.proofs.Common.{◌≡◌, ◌≢◌, ℕ, ◌+◌, ◌-◌, ◌/◌, ◌<◌, ◌≤◌, ◌⊎◌, Bool, true, false, true≢false, IsTrue, Option, List, [], ◌∷◌, ◌++◌, length, take, drop, min, slice_index_or, refl, sym, ap, ◌∙◌, subst, inl, inr, arith, append_assoc, length-append, length-take, take-take}
+use Rattle.std.proofs.Common.{◌≡◌, ◌≢◌, ℕ, ◌+◌, ◌-◌, ◌<◌, ◌≤◌, ◌⊎◌, Bool, true, false, true≢false, Option, List, [], ◌∷◌, ◌++◌, length, take, drop, min, refl, sym, ap, ◌∙◌, subst, inl, inr, arith, append_assoc, length-append, length-take, take-take}
 use Rattle.std.proofs.lemmas.Bool.{cases_lt}
 use Rattle.cbor_head.specs.{declared.event.Event.Event, Prelude.Bounds, Prelude.spell, declared.keys.Keys.Keys, declared.reason.Refusal.Refusal}
-use Rattle.theory_values.specs.FirstBytes.{is_basic}
 use Rattle.theory_automaton.specs.Automaton as automaton
-use Rattle.theory_automaton.specs.{Automaton.State, Automaton.reached, Trace.Mark, Trace.total, Marks.marks_of, Bytes.IsEventBytes}
+use Rattle.theory_automaton.specs.{Automaton.reached, Trace.Mark, Trace.total, Marks.marks_of, Bytes.IsEventBytes}
 use Rattle.theory_automaton.proofs.Taking.{IsClear}
 use Rattle.cbor_machine.specs.State.{state_of, is_at_item, wanted_at}
 use Rattle.cbor_machine.specs.declared.frame.Frame as frames
@@ -15,19 +14,11 @@ use Rattle.cbor_machine.{specs.MachineView.MachineView, specs.declared.position.
 use Rattle.cbor_machine.proofs.Feeding.{rest_from, split-rest}
 use Rattle.cbor_strict.specs.{inner.OpenItems.frames_in, inner.OpenItems.Stands, declared.open_items.OpenItems.OpenItems}
 use Rattle.cbor_strict.proofs.StrictStops.{IsAsked}
-use Rattle.cbor_stream.specs.inner.Amid.{IsAmid, IsOffered, IsBasicFirst, IsOtherFirst, IsRefusedNow, IsStepAnswer, asks_of}
+use Rattle.cbor_stream.specs.inner.Amid.{IsAmid, IsOffered, IsBasicFirst, IsRefusedNow, IsStepAnswer, asks_of}
 use Rattle.cbor_stream.proofs.Amid.{amid_stands, silent, nothing_since}
 use Rattle.cbor_stream.proofs.{KeyKinds.HasStart, Asking.asked_so}
 
 -- ---- one byte
-
-pub other_first : (xs : List ℕ) → length xs ≡ 1 → ¬ IsTrue (is_basic (slice_index_or xs 0 0 / 32)) → slice_index_or xs 0 0 ≢ 0xff → IsOtherFirst xs
-other_first [] l h k = absurd (omega (arith, l))
-other_first (x ∷ xs) l h k = (h, k)
-
-pub basic_first : (xs : List ℕ) → length xs ≡ 1 → IsTrue (is_basic (slice_index_or xs 0 0 / 32)) ⊎ (slice_index_or xs 0 0 ≡ 0xff) → IsBasicFirst xs
-basic_first [] l h = tt
-basic_first (x ∷ xs) l h = h
 
 -- it, and what is known of it
 pub record IsOne (xs : List ℕ) : Type 0 where

@@ -1,7 +1,7 @@
 -- From one step to the next: what contracts see of the fields, and what holds of them.
-use Rattle.std.proofs.Common.{◌≡◌, ℕ, Option, Some, None, List, [], ◌++◌, length, refl, sym, ap, subst, arith, append-nil, length-append}
+use Rattle.std.proofs.Common.{◌≡◌, ℕ, Option, Some, None, List, [], ◌++◌, length, refl, sym, ap, subst, arith, append-nil, length-append, IsTrue}
 use Rattle.cbor_head.specs.Prelude.{Bounds, AreBounds, strict}
-use Rattle.cbor_head.specs.declared.{keys.Keys.Keys, order.KeyOrder.KeyOrder, reason.Refusal.Refusal}
+use Rattle.cbor_head.specs.declared.{keys.Keys.Keys, order.KeyOrder.KeyOrder, reason.Reason.TheVariants.Memory, reason.Refusal.Refusal}
 use Rattle.theory_automaton.specs.{Trace.Mark, Marks.marks_of}
 use Rattle.cbor_machine.specs.declared.step.Out.TheVariants as outs
 use Rattle.cbor_machine.specs.{MachineView.MachineView, Machine.StandsFor, Machine.KeepsLimits, declared.step.Out.Out}
@@ -23,6 +23,7 @@ shown m v keys r = record {
   spans = length (view_value v.keys).spans;
   kept = length (view_value v.keys).bytes;
   refusal = r;
+  refused = v.memory;
   inner = record { items = v };
 }
 
@@ -48,6 +49,7 @@ sound_live m v keys b t ms asks limits a =
     record {
       somewhere = λ n. record { b = b; asks = asks; t = t; ms = ms; amid = a };
       stopped = tt;
+      memory = tt;
       limits = limits;
       within = s.bounded;
       limited = s.limited;
@@ -57,7 +59,7 @@ sound_live m v keys b t ms asks limits a =
 
 -- ---- before the first byte
 
-abbrev events_of : MachineView → ItemEventsView
+abbrev pub events_of : MachineView → ItemEventsView
 events_of m = record { machine = m; piece = []; refusal = None }
 
 module _ (limits : Bounds) (keys : Keys) (m : MachineView) (v : OpenItems) (asks : keys ≡ limits.keys) (within : AreBounds limits) (same : (m.depth ≡ limits.depth) × (m.bytes ≡ limits.bytes)) (s : StandsFor m [] []) (none : v.left ≡ 0) (kept : IsKept (view_value v.keys) [] []) where
@@ -92,10 +94,11 @@ module _ (m new : MachineView) (v w : OpenItems) (keys : Keys) (limits : KeepsLi
   limits_so = (omega (arith, within.0, limits.depth), omega (arith, within.1, limits.bytes))
 
   -- nothing is stored after a refusal
-  pub sound_refused : (f : Refusal) (last : LastKeys) → w.order ≡ v.order → new.taken ≡ f.read → IsStrictReason v.order f.reason → IsKept (view_value last) [] [] → AreSound new (record w { keys = last }) keys (Some f)
-  sound_refused f last order taken reason kept = record {
+  pub sound_refused : (f : Refusal) (last : LastKeys) → w.order ≡ v.order → new.taken ≡ f.read → IsStrictReason v.order f.reason → IsKept (view_value last) [] [] → (f.reason ≡ Memory → IsTrue w.memory) → AreSound new (record w { keys = last }) keys (Some f)
+  sound_refused f last order taken reason kept memory = record {
     somewhere = λ n. absurd (cc n);
     stopped = (sym taken, subst (λ (o : KeyOrder). IsStrictReason o f.reason) (sym order) reason, ap length kept.spans, ap length kept.bytes);
+    memory = memory;
     limits = limits_so;
     within = limits.open_count;
     limited = limits.taken;
@@ -103,7 +106,7 @@ module _ (m new : MachineView) (v w : OpenItems) (keys : Keys) (limits : KeepsLi
     kept = omega (arith, ap length kept.bytes);
   }
 
-  there : (t : List ℕ) (ms : List Mark) → IsAmid new w (bounds_of m keys) t ms → StandsAmid (shown new w keys None) t ms
+  pub there : (t : List ℕ) (ms : List Mark) → IsAmid new w (bounds_of m keys) t ms → StandsAmid (shown new w keys None) t ms
   there t ms a = stands_amid new w keys t ms (subst (λ (b : Bounds). IsAmid new w b t ms) (same_bounds m new keys limits) a)
 
   -- what a step returns, as contracts see it

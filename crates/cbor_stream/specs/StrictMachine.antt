@@ -1,5 +1,5 @@
 -- What the strict check of bytes that come in parts represents, and what its steps return (RFC 8949, section 4.2).
-use Rattle.std.specs.Prelude.{◌≡◌, ℕ, ◌++◌, List, [], length, Option, None}
+use Rattle.std.specs.Prelude.{◌≡◌, ℕ, ◌++◌, Bool, List, [], length, Option, None}
 use Rattle.cbor_head.specs.Prelude.{Bounds, bounds, with_keys, Spelling, strict}
 use Rattle.cbor_head.specs.{Laws.StartsWith, Laws.IsWithout, declared.keys.Keys.Keys, declared.order.KeyOrder.KeyOrder, declared.reason.Refusal.Refusal}
 use Rattle.theory_automaton.specs.{Trace.Mark, Trace.total, Marks.marks_of}
@@ -20,6 +20,8 @@ pub record StrictMachineView : Type 0 where
   pub spans : ℕ
   pub kept : ℕ
   pub refusal : Option Refusal
+  -- whether a request for memory was refused for the item
+  pub refused : Bool
   -- what leads from one step to the next; no public clause looks into it
   pub inner : Inner
 

@@ -10,9 +10,11 @@
 //! ```
 #![tactic(auto)]
 
+mod allowance;
 pub mod laws;
 mod next_step;
 mod strict_machine;
+mod whole_item;
 
 pub use cbor_head::{Event, EventKind};
 pub use cbor_machine::{Out, Step};

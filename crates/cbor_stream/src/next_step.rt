@@ -1,9 +1,10 @@
 //! One step of the machine, and what the strict rules make of it.
 
 ghost use Rattle.std.specs.Prelude.{◌≡◌, ◌<◌, ◌≤◌, ◌+◌, ℕ, List, length, take};
-ghost use Rattle.std.specs.Prelude.{true, false, None};
+ghost use Rattle.std.specs.Prelude.{true, false, None, IsTrue};
 ghost use Rattle.cbor_head.specs.Limits.{Bounds};
 ghost use Rattle.cbor_head.specs.declared.keys.Keys.{Keys};
+ghost use Rattle.cbor_head.specs.declared.reason.Reason.TheVariants as reasons;
 ghost use Rattle.theory_automaton.specs.Trace.{Mark};
 ghost use Rattle.cbor_machine.specs.Machine.{KeepsLimits, IsComplete, IsEvent, IsMore, IsDone};
 ghost use Rattle.cbor_machine.specs.Machine.{IfRefused, wanted, piece_of};
@@ -14,6 +15,7 @@ ghost use Rattle.cbor_stream.specs.inner.Amid.{IsTaken, IsBasicFirst, IsOtherFir
 use cbor_head::{Keys, Reason, Refusal};
 use cbor_machine::{Machine, Out, Step, below_256, take_part};
 use cbor_strict::OpenItems;
+use theory_values::is_other_kind;
 
 // Whether the input is the first byte of a key whose kind is judged, was taken at this offset, and
 // begins neither an integer nor a text.
@@ -27,8 +29,7 @@ fn is_other_key(is_key: bool, input: &[u8], out: &Out, place: u64) -> bool
     if !is_key {
         return false;
     }
-    let first = input[0];
-    if matches!(first / 32, 0 | 1 | 3) || first == 0xff {
+    if !is_other_kind(input[0]) {
         return false;
     }
     match out {
@@ -59,6 +60,8 @@ fn offer(machine: &mut Machine, items: &mut OpenItems, is_key: bool, input: &[u8
     ensures over { IsDone result.out → IsComplete machine.old }
     ensures refused { IfRefused result.out (λ f. (machine.new.taken ≡ f.read)
         × IsStrictReason items.old.order f.reason) }
+    ensures memory { IfRefused result.out
+        (λ f. f.reason ≡ reasons.Memory → IsTrue items.new.memory) }
 {
     below_256(input);
     let place = machine.taken();
@@ -132,6 +135,8 @@ pub(crate) fn next_step(
         → (result.out ≡ Out.Done) × (result.used ≡ 0) × (machine.new ≡ machine.old) }
     ensures refused { IfRefused result.out (λ f. (machine.new.taken ≡ f.read)
         × IsStrictReason items.old.order f.reason) }
+    ensures memory { IfRefused result.out
+        (λ f. f.reason ≡ reasons.Memory → IsTrue items.new.memory) }
 {
     if !begins_key(machine, items, keys, input) {
         return offer(machine, items, false, input);

@@ -1,8 +1,9 @@
 //! The machine that reads an item in parts, by the strict rules.
 
 ghost use Rattle.std.specs.Prelude.{◌≡◌, ◌≢◌, ◌↔◌, ◌≤◌, ◌<◌, ◌+◌, ◌++◌, ℕ, List, [], length, take, None, Some};
-ghost use Rattle.std.specs.Prelude.{IfSome, Err};
+ghost use Rattle.std.specs.Prelude.{IfSome, IfErr, Err, IsTrue, false};
 ghost use Rattle.cbor_head.specs.Complaint.{strict};
+ghost use Rattle.cbor_head.specs.declared.reason.Reason.TheVariants as reasons;
 ghost use Rattle.theory_automaton.specs.Trace.{Mark};
 ghost use Rattle.cbor_machine.specs.Machine.{KeepsLimits, IsComplete, IsEvent, IsMore, IsDone};
 ghost use Rattle.cbor_machine.specs.Machine.{IfRefused, piece_of, wanted};
@@ -13,7 +14,9 @@ ghost use Rattle.cbor_stream.specs.Reasons.{IsStrictReason};
 ghost use Rattle.cbor_stream.specs.Said.{Says, EndsAs};
 ghost use Rattle.cbor_stream.specs.inner.Amid.{AreSound};
 
+use crate::allowance::Allowance;
 use crate::next_step::next_step;
+use crate::whole_item::take_item;
 use cbor_head::{KeyOrder, Keys, Limits, Reason, Refusal};
 use cbor_machine::{Machine, Out, Step};
 use cbor_strict::OpenItems;
@@ -31,6 +34,7 @@ pub struct StrictMachine {
     items: OpenItems,
     keys: Keys,
     refusal: Option<Refusal>,
+    allowance: Allowance,
 }
 
 impl Model for StrictMachine {
@@ -43,6 +47,7 @@ impl Model for StrictMachine {
       spans = length (view_value m.items.keys).spans;
       kept = length (view_value m.items.keys).bytes;
       refusal = m.refusal;
+      refused = m.items.memory;
       inner = record { items = m.items };
     } };
 
@@ -55,12 +60,14 @@ impl StrictMachine {
         ensures starts { StandsAmid result [] [] }
         ensures limits { limits_of result ≡ limits }
         ensures order { result.order ≡ order }
+        ensures memory { result.refused ≡ false }
     {
         StrictMachine {
             machine: Machine::new(limits),
             items: OpenItems::new(alloc, order),
             keys: limits.keys(),
             refusal: None,
+            allowance: Allowance::new(),
         }
     }
 
@@ -69,10 +76,12 @@ impl StrictMachine {
         ensures starts { StandsAmid self.new [] [] }
         ensures limits { limits_of self.new ≡ limits_of self.old }
         ensures order { self.new.order ≡ order }
+        ensures memory { self.new.refused ≡ false }
     {
         self.machine.restart();
         self.items.restart(order);
         self.refusal = None;
+        self.allowance = Allowance::new();
     }
 
     /// How many arrays, maps and tags are open: from its head until its last member.
@@ -132,6 +141,8 @@ impl StrictMachine {
         ensures refused { IfRefused result.out (λ f. (self.new.refusal ≡ Some f)
             × (self.new.machine.taken ≡ f.read) × IsStrictReason self.old.order f.reason
             × (self.new.spans ≡ 0) × (self.new.kept ≡ 0)) }
+        ensures memory { IfRefused result.out
+            (λ f. f.reason ≡ reasons.Memory → IsTrue self.new.refused) }
         ensures complete { IsComplete self.old.machine → self.old.refusal ≡ None
             → (result.out ≡ Out.Done) × (result.used ≡ 0) }
         ensures again { IfSome self.old.refusal (λ f. (result.out ≡ Out.Refused f)
@@ -144,6 +155,7 @@ impl StrictMachine {
             }
             None => {}
         }
+        self.allowance.earn_event();
         let step = next_step(&mut self.machine, &mut self.items, self.keys, input);
         let Step { used, out } = step;
         let refusal = match out {
@@ -154,6 +166,47 @@ impl StrictMachine {
         self.items.keys.forget();
         let out = Out::Refused(refusal);
         Step { used, out }
+    }
+
+    // Consumes the item that the input begins with, if it is in no key, and canonical, and if the
+    // input has all of it. Returns the number of its bytes. Otherwise it consumes nothing.
+    #[inline(always)]
+    fn take_item(&mut self, input: &[u8]) -> Option<usize>
+        ensures used { IfSome result (λ used. (0 < used) × (used ≤ length input.now)
+            × (self.new.machine.taken ≡ self.old.machine.taken + used)) }
+        ensures stands { IfSome result (λ used. (t : List ℕ) (ms : List Mark)
+            → StandsAmid self.old t ms
+            → (ns : List Mark) × StandsAmid self.new (t ++ take used input.now) ns) }
+        ensures limits { IfSome result (λ used. KeepsLimits self.old.machine self.new.machine) }
+        ensures order { self.new.order ≡ self.old.order }
+        ensures keys { self.new.keys ≡ self.old.keys }
+        ensures live { IfSome result (λ used. self.old.refusal ≡ None) }
+        ensures unfinished { IfSome result (λ used. ¬ IsComplete self.old.machine) }
+        ensures none { result ≡ None → self.new ≡ self.old }
+    {
+        match self.refusal {
+            Some(_) => return None,
+            None => {}
+        }
+        let part = self.allowance.part(input.len());
+        if part == 0 {
+            return None;
+        }
+        if !self.machine.wants_head() || self.items.is_in_key() {
+            return None;
+        }
+        let taken = take_item(
+            &mut self.machine,
+            &mut self.items,
+            self.keys,
+            &input[..part],
+        );
+        let Some(used) = taken else {
+            self.allowance.spend(part);
+            return None;
+        };
+        self.allowance.earn(used);
+        Some(used)
     }
 
     /// Takes bytes from the start of the input until the item is complete, a refusal is certain, or
@@ -172,6 +225,8 @@ impl StrictMachine {
         ensures refused { IfRefused result.out (λ f. (self.new.refusal ≡ Some f)
             × (self.new.machine.taken ≡ f.read) × IsStrictReason self.old.order f.reason
             × (self.new.spans ≡ 0) × (self.new.kept ≡ 0)) }
+        ensures memory { IfRefused result.out
+            (λ f. f.reason ≡ reasons.Memory → IsTrue self.new.refused) }
         ensures complete { IsComplete self.old.machine → self.old.refusal ≡ None
             → (result.out ≡ Out.Done) × (result.used ≡ 0) }
         ensures again { IfSome self.old.refusal (λ f. (result.out ≡ Out.Refused f)
@@ -179,6 +234,10 @@ impl StrictMachine {
     {
         let mut used = 0;
         'events: loop {
+            if let Some(size) = self.take_item(&input[used..]) {
+                used += size;
+                continue;
+            }
             let step = self.step(&input[used..]);
             used += step.used;
             let Out::Event(_) = step.out else {
@@ -202,6 +261,7 @@ impl StrictMachine {
         ensures stands { (t : List ℕ) (ms : List Mark) → StandsAmid self.old t ms
             → self.new.refusal ≡ None → StandsAmid self.new t ms }
         ensures again { IfSome self.old.refusal (λ f. result ≡ Err f) }
+        ensures memory { IfErr result (λ f. f.reason ≡ reasons.Memory → IsTrue self.new.refused) }
     {
         let taken = self.taken();
         match self.step(&[]).out {

@@ -5,3 +5,5 @@
 
 #[cfg(test)]
 mod tests;
+#[cfg(test)]
+mod whole_items;

@@ -7,7 +7,7 @@ use std::alloc::{AllocError, Global};
 use std::test::Fail;
 
 // What the machine reports, as the check of a slice does: Truncated for an item that is not complete.
-fn answer_of(step: Step, taken: u64) -> Option<Result<u64, Refusal>> {
+pub(crate) fn answer_of(step: Step, taken: u64) -> Option<Result<u64, Refusal>> {
     match step.out {
         Out::Done => Some(Ok(taken)),
         Out::More => Some(Err(Refusal::new(Reason::Truncated, taken, taken))),
@@ -18,7 +18,13 @@ fn answer_of(step: Step, taken: u64) -> Option<Result<u64, Refusal>> {
 
 // Whether the answer after a part is that for all bytes so far, and the end is that for all. Of a long
 // input the parts are those near its ends, and one of 64.
-fn is_alike(alloc: Global, input: &[u8], limits: Limits, order: KeyOrder, part: usize) -> bool {
+pub(crate) fn is_alike(
+    alloc: Global,
+    input: &[u8],
+    limits: Limits,
+    order: KeyOrder,
+    part: usize,
+) -> bool {
     let mut machine = StrictMachine::new(alloc, limits, order);
     let all = input.len();
     let mut from = 0;

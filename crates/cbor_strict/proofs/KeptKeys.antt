@@ -1,6 +1,6 @@
 -- What is stored of a path of open containers for the order of keys: within a key, and when a container
 -- opens.
-use Rattle.std.proofs.Common.{◌≡◌, ℕ, zero, suc, ◌+◌, ◌<◌, ◌≤◌, Bool, true, false, true≢false, List, [], ◌∷◌, ◌++◌, length, refl, sym, ap, ◌∙◌, inl, inr, arith, append_assoc, append-nil, if◌then◌else◌, ◌↔◌, IsTrue, Result, Ok, Err, OnOk, is_ok, length-append}
+use Rattle.std.proofs.Common.{◌≡◌, ℕ, zero, suc, ◌+◌, ◌<◌, ◌≤◌, Bool, true, false, true≢false, List, [], ◌∷◌, ◌++◌, length, refl, sym, ap, ◌∙◌, inl, inr, arith, append_assoc, append-nil, if◌then◌else◌, ◌↔◌, IsTrue, Result, Ok, Err, OnOk, MatchResult, length-append}
 use Rattle.std.proofs.lemmas.Bool.{cases_Bool}
 use Rattle.cbor_head.specs.Prelude.{head, Spelling, SpelledEntries, no_entries, entries_count}
 use Rattle.cbor_head.specs.declared.{major.Major.TheVariants.Map, width.Width.Width}
@@ -84,7 +84,7 @@ pub keeps_none : (k : KeysView) (fs : List Frame) (p x : List ℕ) → IsKept k 
 keeps_none k fs p x h e = record { levels = h.levels; spans = h.spans; bytes = h.bytes ∙ kept_out fs p (p ++ x) (in_no_key fs (sym h.open_keys ∙ e)); open_keys = h.open_keys }
 
 module _ {T E : Type 0} where
-  pub keeps_if_ok : (r : Result T E) (k : KeysView) (fs : List Frame) (p x more : List ℕ) → IsKept k fs p → 0 < k.open_keys → more ≡ (if is_ok r then k.bytes ++ x else k.bytes)
+  pub keeps_if_ok : (r : Result T E) (k : KeysView) (fs : List Frame) (p x more : List ℕ) → IsKept k fs p → 0 < k.open_keys → MatchResult r (λ u. more ≡ k.bytes ++ x) (λ e. more ≡ k.bytes)
       → OnOk r (IsKept (record k { bytes = more }) fs (p ++ x))
   keeps_if_ok (Ok u) k fs p x more h l g = keeps k fs p x more h l g
   keeps_if_ok (Err u) k fs p x more h l g = tt
@@ -145,3 +145,16 @@ opens_map k w v b fs p here h e g = record {
           let there : here ≡ kept_before fs + 0 = omega (arith, at, ap length (kept_out fs p [] i)) in
           rw i (span_is here here here _ _ _ there (omega (arith, there)) there)
     ]
+
+-- ---- a key that is not complete is one of an open map
+
+few_around : (fs : List Frame) → keys_around fs ≤ length (spans_of fs)
+few_around [] = omega arith
+few_around (f ∷ fs) = let few = few_around fs in omega (arith, few, length-append (spans_of fs) (spans_in f fs), one f)
+  where
+    one : (f : Frame) → keys_around (f ∷ fs) ≤ keys_around fs + length (spans_in f fs)
+    one (a_key w a v b) = omega arith
+    one _ = omega arith
+
+pub has_span : (k : KeysView) (fs : List Frame) (p : List ℕ) → IsKept k fs p → 0 < k.open_keys → 0 < length k.spans
+has_span k fs p h some = let few = few_around fs in omega (arith, few, some, h.open_keys, ap length h.spans)

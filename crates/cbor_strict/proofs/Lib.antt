@@ -16,3 +16,4 @@ pub mod StrictLoop
 pub mod StrictReading
 pub mod StrictSteps
 pub mod StrictStops
+pub mod WholeItems

@@ -22,8 +22,9 @@ use Rattle.theory_verdicts.proofs.WholeStrings.{string-head, string-expected}
 use Rattle.cbor_strict.specs.inner.LastKeys.{view_value, from_outside, expected_of, IsKept}
 use Rattle.cbor_strict.specs.inner.OpenItems.{AreOpenClean, frames_in, bytes_before, Stands, HasEnded, HasHeadCome, HasBegunIn, IsLeaf, IsMap, IsOther, GoesOn}
 use Rattle.cbor_strict.proofs.OpenBegins.{lift, no_break, no_openers, leaf_reads, HasOpened, other_opens, pairs_open}
-use Rattle.cbor_strict.specs.declared.{last_keys.Expected.TheVariants.Member, last_keys.LastKeys.LastKeys, open_items.OpenItems.OpenItems}
-use Rattle.cbor_strict.proofs.{KeptEnds.kept_keys, KeptEnds.kept_levels, OpenEnds.frames_length, OpenEnds.before_more, OpenStates.around_as}
+use Rattle.cbor_strict.specs.{StrictReader.IsMapHead, declared.last_keys.Expected.TheVariants.Member, declared.last_keys.LastKeys.LastKeys}
+use Rattle.cbor_strict.{specs.declared.open_items.OpenItems.OpenItems, proofs.KeptEnds.kept_keys, proofs.KeptEnds.kept_levels}
+use Rattle.cbor_strict.proofs.{OpenEnds.frames_length, OpenEnds.before_more, OpenStates.around_as}
 
 -- ---- what is found of the item is found of the whole
 
@@ -241,3 +242,11 @@ head_comes d fs (a_head m w n) x next h none = none m w n refl
 head_comes d fs (a_chunk w n) x next h none = h
 head_comes d fs a_byte x next h none = h
 head_comes d fs a_break x next h none = no_break fs next h.1
+
+-- an event with the head of a map
+pub map_head : (kind : EventKind) (w : Width) (m : Major) (n : ℕ) → mark_of w kind ≡ a_head m w n → m ≡ majors.Map → IsMapHead kind
+map_head kind w m n is e = go kind (is ∙ ap (λ (k : Major). a_head k w n) e)
+  where
+    go : (kind : EventKind) → mark_of w kind ≡ a_head majors.Map w n → IsMapHead kind
+    go (kinds.Map k) h = tt
+    go _ h = absurd (cc h)

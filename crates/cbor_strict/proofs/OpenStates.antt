@@ -118,7 +118,7 @@ behind_value old new keys last count taken expected b e t k h c d same_order sam
         (subst (λ (y : LastKeys). IsKept (view_value y) (g ∷ gs) []) (sym same_keys) (step w a key s l x c2 gs m.kept))
 
 -- a key, and nothing else
-by_key : (old : OpenItems) (keys : LastKeys) (count taken : ℕ) (expected : Expected) (b : Bounds) (e : ItemEventsView) (t : List ℕ) → Closing old keys count taken expected → (h : HasEnded old b e t) → count ≡ e.machine.open_count → expected ≡ Key → (P : Type 0)
+pub by_key : (old : OpenItems) (keys : LastKeys) (count taken : ℕ) (expected : Expected) (b : Bounds) (e : ItemEventsView) (t : List ℕ) → Closing old keys count taken expected → (h : HasEnded old b e t) → count ≡ e.machine.open_count → expected ≡ Key → (P : Type 0)
     → ((w : Width) (a : SpelledEntries) (v : Spelling) (others : SpelledEntries) (gs : List Frame) (s : Spelling) → HasClosed old.order b e t keys (a_key w a v others ∷ gs) s → P) → P
 by_key old keys count taken expected b e t k h c d P of_key = go (still_open h.fs) (ended_item h.fs h.item) (has_closed old keys count taken expected b e t k h c).stays (has_closed old keys count taken expected b e t k h c)
   where

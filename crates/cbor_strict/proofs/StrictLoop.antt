@@ -1,5 +1,5 @@
 -- The strict reader's events, one after another, until the item is complete or refused.
-use Rattle.std.proofs.Common.{◌≡◌, ℕ, ◌-◌, ◌<◌, Option, Some, None, List, [], ◌++◌, length, refl, sym, ap, ◌∙◌, subst, inl, inr, arith, append-nil, length-append}
+use Rattle.std.proofs.Common.{◌≡◌, ℕ, false, ◌-◌, ◌<◌, Option, Some, None, List, [], ◌++◌, length, refl, sym, ap, ◌∙◌, subst, inl, inr, arith, append-nil, length-append}
 use Rattle.std.{specs.Option.IfSome, specs.Io.KnownBytes.Consumes, proofs.KnownBytes.Consumes-nil, proofs.KnownBytes.Consumes-trans}
 use Rattle.cbor_head.specs.Prelude.{Bounds, spell, value_of, strict, Complains}
 use Rattle.cbor_head.specs.declared.major.Major.TheVariants as majors
@@ -57,9 +57,10 @@ pub record IsRunning (o : KeyOrder) (b : Bounds) (v : StrictEventsView) (from no
   pub stands : StandsStrictly v t marks
   pub order : v.order ≡ o
   pub limits : limits_of v ≡ b
+  pub granted : v.refused ≡ false
 
-pub runs_first : (o : KeyOrder) (b : Bounds) (v : StrictEventsView) (from : Option (List ℕ)) → StandsStrictly v [] [] → v.order ≡ o → limits_of v ≡ b → IsRunning o b v from from
-runs_first o b v from stands order limits = record { t = []; marks = []; consumed = Consumes-nil from; stands = stands; order = order; limits = limits }
+pub runs_first : (o : KeyOrder) (b : Bounds) (v : StrictEventsView) (from : Option (List ℕ)) → StandsStrictly v [] [] → v.order ≡ o → limits_of v ≡ b → v.refused ≡ false → IsRunning o b v from from
+runs_first o b v from stands order limits granted = record { t = []; marks = []; consumed = Consumes-nil from; stands = stands; order = order; limits = limits; granted = granted }
 
 -- where nothing more is reported the item is complete
 over : (v : OpenItems) (b : Bounds) (e : ItemEventsView) (t : List ℕ) → Stands v b e t → IsComplete e.machine → IsOver v b e t
@@ -71,14 +72,15 @@ module _ (o : KeyOrder) (b : Bounds) (v new : StrictEventsView) (from now to : O
   pub runs_limits : KeepsLimits v.machine new.machine → new.keys ≡ v.keys → limits_of new ≡ b
   runs_limits limits keys = ap (bounds_of new.machine) keys ∙ sym (same_bounds v.machine new.machine v.keys limits) ∙ h.limits
 
-  pub runs_on : (ev : Event) → IsNextClean ev (strict_call v new now to h.t h.marks) → KeepsLimits v.machine new.machine → new.order ≡ v.order → new.keys ≡ v.keys → IsRunning o b new from to
-  runs_on ev n limits order keys = record {
+  pub runs_on : (ev : Event) → IsNextClean ev (strict_call v new now to h.t h.marks) → KeepsLimits v.machine new.machine → new.order ≡ v.order → new.keys ≡ v.keys → new.refused ≡ v.refused → IsRunning o b new from to
+  runs_on ev n limits order keys granted = record {
     t = h.t ++ n.event.bytes;
     marks = h.marks ++ marks_of ev.width ev.kind;
     consumed = Consumes-trans from now to h.t n.event.bytes h.consumed n.event.consumed;
     stands = n.stands;
     order = order ∙ h.order;
     limits = runs_limits limits keys;
+    granted = granted ∙ h.granted;
   }
 
   pub runs_farther : (ev : Event) → IsNextClean ev (strict_call v new now to h.t h.marks) → KeepsLimits v.machine new.machine → new.machine.bytes - new.machine.taken < v.machine.bytes - v.machine.taken

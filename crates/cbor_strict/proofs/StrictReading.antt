@@ -1,8 +1,9 @@
 -- What the strict reader's state says of the bytes that follow.
-use Rattle.std.proofs.Common.{◌≡◌, ℕ, ◌-◌, ◌≤◌, ◌⊎◌, Option, Some, None, List, [], ◌++◌, length, refl, sym, ap, ◌∙◌, subst, inl, inr, arith, append-nil, Ok, Err}
+use Rattle.std.proofs.Common.{◌≡◌, ℕ, ◌-◌, ◌<◌, ◌≤◌, ◌⊎◌, Option, Some, None, List, [], ◌++◌, length, refl, sym, ap, ◌∙◌, subst, inl, inr, arith, append-nil, Ok, Err, IsTrue}
 use Rattle.cbor_head.specs.Prelude.{head, Bounds, AreBounds, bounds, with_keys, Spelling, IsItem, Rules, strict, Complains, HasNoneOf}
 use Rattle.cbor_head.specs.{Laws.StartsWith, declared.keys.Keys.Keys, declared.order.KeyOrder.KeyOrder, declared.reason.Refusal.Refusal}
-use Rattle.cbor_head.specs.declared.{reason.Reason.Reason, event.Event.Event, event.EventKind.EventKind, event.EventKind.TheVariants.Piece}
+use Rattle.cbor_head.specs.declared.{reason.Reason.Reason, reason.Reason.TheVariants.Memory, event.Event.Event, event.EventKind.EventKind}
+use Rattle.cbor_head.specs.declared.event.EventKind.TheVariants.{Piece}
 use Rattle.theory_values.proofs.Agree.{same_complaints}
 use Rattle.theory_automaton.specs.{Trace.Mark, Bytes.IsBytesOf, Bytes.last_type, Marks.marks_of}
 use Rattle.cbor_machine.specs.NextEvent.{ItemEventsView, StandsBetween, Call, call, machine_call, IsCut, IsTooLong, HasFormError, IsNextEvent, IsKept as IsPieceKept}
@@ -11,10 +12,10 @@ use Rattle.theory_verdicts.{specs.Refusals.IsReaderReason, specs.Judged.IsJudged
 use Rattle.theory_verdicts.{proofs.KindFrames.keeps_start, proofs.Decisions.none_beside, specs.Kinds.KeepsToKinds, proofs.Judged.judged_start}
 use Rattle.theory_verdicts.proofs.{CutHeads.string_cut, OpenSteps.none_open, Steps.same-marks}
 use Rattle.cbor_strict.specs.inner.OpenItems.{frames_in, bytes_before, Stands}
-use Rattle.cbor_strict.specs.StrictReader.{StrictEventsView, StandsStrictly, IsNextStrict, IsStrictRefusal, IsAgainstEvent, StopsAtOnce, strict_call}
+use Rattle.cbor_strict.specs.StrictReader.{StrictEventsView, StandsStrictly, IsNextStrict, IsStrictRefusal, IsAgainstEvent, IsMapHead, StopsAtOnce, strict_call}
 use Rattle.cbor_strict.specs.inner.StrictEvents.{StandsSomewhere, IsStep, AnswersStep, IsLittle, AreWithinBounds, bounds_of, piece_unless}
 use Rattle.cbor_strict.specs.{declared.last_keys.LastKeys.LastKeys, declared.open_items.OpenItems.OpenItems, inner.LastKeys.view_value, inner.LastKeys.IsKept}
-use Rattle.cbor_strict.proofs.{KeptReading.stands_counted, KeptReading.stands_little, OpenBegins.lift}
+use Rattle.cbor_strict.proofs.{KeptKeys.has_span, KeptReading.stands_counted, KeptReading.stands_little, OpenBegins.lift}
 
 -- ---- nothing has a complaint
 
@@ -49,12 +50,12 @@ stands_first limits e v within live same h none kept =
 -- ---- no event is left out before it
 
 -- the form refuses
-pub by_form : (o : KeyOrder) (f : Refusal) (c : Call) → IsCut f c ⊎ IsTooLong f c ⊎ HasFormError f c → StopsAtOnce o f c
-by_form o f c h = elim h [ inl x ↦ inl x | inr (inl x) ↦ inr (inl x) | inr (inr x) ↦ inr (inr (inl x)) ]
+pub by_form : (o : KeyOrder) (spans : ℕ) (f : Refusal) (c : Call) → IsCut f c ⊎ IsTooLong f c ⊎ HasFormError f c → StopsAtOnce o spans f c
+by_form o spans f c h = elim h [ inl x ↦ inl x | inr (inl x) ↦ inr (inl x) | inr (inr x) ↦ inr (inr (inl x)) ]
 
 -- an event is withheld
-pub by_event : (o : KeyOrder) (f : Refusal) (ev : Event) (c : Call) → IsNextEvent ev c → ((n : ℕ) → ev.kind ≡ Piece n → n ≤ 512) → f.read ≡ c.new.taken → IsAgainstEvent o f.reason → StopsAtOnce o f c
-by_event o f ev c h small read against = inr (inr (inr (inl (record {
+pub by_event : (o : KeyOrder) (spans : ℕ) (f : Refusal) (ev : Event) (c : Call) → IsNextEvent ev c → ((n : ℕ) → ev.kind ≡ Piece n → n ≤ 512) → f.read ≡ c.new.taken → IsAgainstEvent o f.reason → (f.reason ≡ Memory → (0 < spans) ⊎ IsMapHead ev.kind) → StopsAtOnce o spans f c
+by_event o spans f ev c h small read against needed = inr (inr (inr (inl (record {
   width = ev.width;
   kind = ev.kind;
   bytes = h.bytes;
@@ -64,6 +65,7 @@ by_event o f ev c h small read against = inr (inr (inr (inl (record {
   read = read ∙ h.stands.stands.taken;
   stands = h.stands;
   against = against;
+  needed = needed;
 }))))
 
 pub small_piece : (ev : Event) (c : Call) (piece : List ℕ) → IsNextEvent ev c → piece ≡ c.new_piece → length piece ≤ 512 → (n : ℕ) → ev.kind ≡ Piece n → n ≤ 512
@@ -73,13 +75,19 @@ small_piece ev c piece h is l n e =
     let same = ap length (is ∙ kept) in
     omega (arith, size, same, l)
 
+-- a key that is not complete is one of an open map
+pub stands_span : (v : OpenItems) (b : Bounds) (e : ItemEventsView) (t : List ℕ) → Stands v b e t → 0 < (view_value v.keys).open_keys → 0 < length (view_value v.keys).spans
+stands_span v b e t (inl h) some = has_span (view_value v.keys) h.fs [] h.kept some
+stands_span v b e t (inr (inl h)) some = has_span (view_value v.keys) h.fs _ h.kept some
+stands_span v b e t (inr (inr h)) some = has_span (view_value v.keys) [] _ h.kept some
+
 -- whatever piece is held
-stops_too : (o : KeyOrder) (f : Refusal) (m n : MachineView) (held left : Option (List ℕ)) (a b x y t : List ℕ) (ms : List Mark) → StopsAtOnce o f (machine_call m n held left a b t ms) → StopsAtOnce o f (machine_call m n held left x y t ms)
-stops_too o f m n held left a b x y t ms h = elim h [
+stops_too : (o : KeyOrder) (spans : ℕ) (f : Refusal) (m n : MachineView) (held left : Option (List ℕ)) (a b x y t : List ℕ) (ms : List Mark) → StopsAtOnce o spans f (machine_call m n held left a b t ms) → StopsAtOnce o spans f (machine_call m n held left x y t ms)
+stops_too o spans f m n held left a b x y t ms h = elim h [
   | inl k ↦ inl (record { bytes = k.bytes; consumed = k.consumed; reason = k.reason; is = k.is; verdict = k.verdict; short = k.short; stands = k.stands; unfinished = k.unfinished })
   | inr (inl k) ↦ inr (inl (record { bytes = k.bytes; consumed = k.consumed; is = k.is; full = k.full; verdict = k.verdict; stands = k.stands; unfinished = k.unfinished }))
   | inr (inr (inl k)) ↦ inr (inr (inl (record { bytes = k.bytes; byte = k.byte; consumed = k.consumed; is = k.is; cannot_follow = k.cannot_follow; verdict = k.verdict; stands = k.stands; unfinished = k.unfinished })))
-  | inr (inr (inr (inl k))) ↦ inr (inr (inr (inl (record { width = k.width; kind = k.kind; bytes = k.bytes; consumed = k.consumed; are = k.are; piece = k.piece; read = k.read; stands = k.stands; against = k.against }))))
+  | inr (inr (inr (inl k))) ↦ inr (inr (inr (inl (record { width = k.width; kind = k.kind; bytes = k.bytes; consumed = k.consumed; are = k.are; piece = k.piece; read = k.read; stands = k.stands; against = k.against; needed = k.needed }))))
   | inr (inr (inr (inr k))) ↦ inr (inr (inr (inr (record { unfinished = k.unfinished; byte = k.byte; small = k.small; consumed = k.consumed; other = k.other; item = k.item; follows = k.follows; is = k.is }))))
 ]
 
@@ -95,6 +103,7 @@ shown e v keys r = record {
   spans = length (view_value v.keys).spans;
   kept = length (view_value v.keys).bytes;
   refusal = r;
+  refused = v.memory;
   inner = record { events = e; items = v };
 }
 
@@ -130,6 +139,7 @@ starts_within limits keys e v asks within live same h none kept =
     record {
       stands = λ n. there;
       stopped = tt;
+      memory = tt;
       limits = (omega (arith, within.0, same.0), omega (arith, within.1, same.1));
       within = h.stands.bounded;
       limited = h.stands.limited;
@@ -165,7 +175,7 @@ module _ (e after : ItemEventsView) (v new : OpenItems) (keys : Keys) (from to :
   next_reported o None answers t ms h = reported_strictly o t ms h (answers (bounds_of e.machine keys) t refl h.inner.stands h.inner.keeps)
   next_reported o (Some f) answers t ms h = absurd (cc h.live)
 
-  pub next_refused : (f : Refusal) (r : Option Refusal) (last : OpenItems) → AnswersStep keys v new e after from to (Err f) → ((t : List ℕ) (ms : List Mark) → StandsBetween e.machine t ms → StopsAtOnce v.order f (call e after from to t ms)) → (t : List ℕ) (ms : List Mark) → StandsStrictly (shown e v keys r) t ms
+  pub next_refused : (f : Refusal) (r : Option Refusal) (last : OpenItems) → AnswersStep keys v new e after from to (Err f) → ((t : List ℕ) (ms : List Mark) → StandsBetween e.machine t ms → StopsAtOnce v.order (length (view_value v.keys).spans) f (call e after from to t ms)) → (t : List ℕ) (ms : List Mark) → StandsStrictly (shown e v keys r) t ms
       → IsStrictRefusal f (strict_call (shown e v keys r) (shown after last keys (Some f)) from to t ms)
   next_refused f None last answers at_once t ms h =
       let s = answers (bounds_of e.machine keys) t refl h.inner.stands h.inner.keeps in
@@ -174,7 +184,7 @@ module _ (e after : ItemEventsView) (v new : OpenItems) (keys : Keys) (from to :
         bytes = s.1.bytes;
         consumed = s.1.consumed;
         read = s.1.read;
-        at_once = stops_too v.order f e.machine after.machine from to e.piece after.piece e.piece [] t ms (at_once t ms h.between);
+        at_once = stops_too v.order (length (view_value v.keys).spans) f e.machine after.machine from to e.piece after.piece e.piece [] t ms (at_once t ms h.between);
         verdict = s.1.unread;
       }
   next_refused f (Some x) last answers at_once t ms h = absurd (cc h.live)
@@ -192,6 +202,7 @@ module _ (e after : ItemEventsView) (v new : OpenItems) (keys : Keys) (from to :
       record {
         stands = λ n. there;
         stopped = rw none tt;
+        memory = rw none tt;
         limits = (omega (arith, h.limits.0, limits.depth), omega (arith, h.limits.1, limits.bytes));
         within = limits.open_count;
         limited = limits.taken;
@@ -199,8 +210,8 @@ module _ (e after : ItemEventsView) (v new : OpenItems) (keys : Keys) (from to :
       }
 
   -- nothing is stored after a refusal
-  pub within_stopped : (f : Refusal) (r : Option Refusal) (last : LastKeys) → r ≡ None → AreWithinBounds e v keys r → AnswersStep keys v new e after from to (Err f) → new.order ≡ v.order → after.machine.taken ≡ f.read → IsKept (view_value last) [] [] → AreWithinBounds after (record new { keys = last }) keys (Some f)
-  within_stopped f r last none h answers same read kept = record {
+  pub within_stopped : (f : Refusal) (r : Option Refusal) (last : LastKeys) → r ≡ None → AreWithinBounds e v keys r → AnswersStep keys v new e after from to (Err f) → new.order ≡ v.order → after.machine.taken ≡ f.read → IsKept (view_value last) [] [] → (f.reason ≡ Memory → IsTrue new.memory) → AreWithinBounds after (record new { keys = last }) keys (Some f)
+  within_stopped f r last none h answers same read kept memory = record {
     stands = λ n. absurd (cc n);
     stopped = (
       sym read,
@@ -208,6 +219,7 @@ module _ (e after : ItemEventsView) (v new : OpenItems) (keys : Keys) (from to :
       ap length kept.spans,
       ap length kept.bytes,
     );
+    memory = memory;
     limits = (omega (arith, h.limits.0, limits.depth), omega (arith, h.limits.1, limits.bytes));
     within = limits.open_count;
     limited = limits.taken;

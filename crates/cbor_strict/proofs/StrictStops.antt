@@ -80,5 +80,5 @@ no_payload v b e t asked keys asks (inr (inl h)) a = absurd (true≢false (sym a
 no_payload v b e t asked keys asks (inr (inr h)) a = absurd (((asks.expected [] (spell h.item) h.kept h.none).0 a).1)
 
 -- no event is left out before it
-pub at_once_there : (asked : Bool) (o : KeyOrder) (f : Refusal) (e new : ItemEventsView) (from to : Option (List ℕ)) (t : List ℕ) (ms : List Mark) → IsNextOf asked (Err f) (call e new from to t ms) → StopsAtOnce o f (call e new from to t ms)
-at_once_there asked o f e new from to t ms h = elim (of_refused asked f (call e new from to t ms) h) [ inl n ↦ by_form o f _ n.0.1 | inr k ↦ inr (inr (inr (inr k.1))) ]
+pub at_once_there : (asked : Bool) (o : KeyOrder) (spans : ℕ) (f : Refusal) (e new : ItemEventsView) (from to : Option (List ℕ)) (t : List ℕ) (ms : List Mark) → IsNextOf asked (Err f) (call e new from to t ms) → StopsAtOnce o spans f (call e new from to t ms)
+at_once_there asked o spans f e new from to t ms h = elim (of_refused asked f (call e new from to t ms) h) [ inl n ↦ by_form o spans f _ n.0.1 | inr k ↦ inr (inr (inr (inr k.1))) ]

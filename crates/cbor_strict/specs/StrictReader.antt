@@ -1,10 +1,10 @@
 -- What the strict reader reports of the item at the start of an input, event by event (RFC 8949, section 4.2).
-use Rattle.std.specs.Prelude.{◌≡◌, ℕ, ◌≤◌, ◌⊎◌, ◌++◌, List, length, Option, Some, None, Result, Ok, Err, IfSome}
+use Rattle.std.specs.Prelude.{◌≡◌, ℕ, ◌<◌, ◌≤◌, ◌⊎◌, ◌++◌, Bool, List, length, Option, Some, None, Result, Ok, Err, IfSome}
 use Rattle.std.specs.Io.KnownBytes.{Consumes}
 use Rattle.cbor_head.specs.Prelude.{Bounds, bounds, with_keys, Spelling, strict}
 use Rattle.cbor_head.specs.{Laws.StartsWith, Laws.IsWithout, declared.keys.Keys.Keys, declared.order.KeyOrder.KeyOrder, declared.reason.Reason.Reason}
 use Rattle.cbor_head.specs.declared.{reason.Reason.TheVariants.Memory, reason.Refusal.Refusal, width.Width.Width, event.Event.Event, event.EventKind.EventKind}
-use Rattle.cbor_head.specs.declared.event.EventKind.TheVariants.{Piece}
+use Rattle.cbor_head.specs.declared.event.EventKind.TheVariants.{Piece, Map}
 use Rattle.theory_automaton.specs.{Bytes.IsEventBytes, Trace.Mark, Marks.marks_of}
 use Rattle.cbor_machine.specs.NextEvent.{StandsBetween, Call, machine_call, IsNextEvent, IsEnd, IsCut, IsTooLong, HasFormError}
 use Rattle.cbor_machine.specs.{MachineView.MachineView, Machine.IsComplete, NextKey.IsOtherKey}
@@ -23,6 +23,8 @@ pub record StrictEventsView : Type 0 where
   pub spans : ℕ
   pub kept : ℕ
   pub refusal : Option Refusal
+  -- whether a request for memory was refused for the item
+  pub refused : Bool
   -- the state that one event passes to the next; no public clause opens it
   pub inner : Inner
 
@@ -78,8 +80,14 @@ pub record IsCleanEnd (c : StrictCall) : Type 0 where
 abbrev pub IsAgainstEvent : KeyOrder → Reason → Type 0
 IsAgainstEvent o reason = IsComplaintReason (strict o) reason ⊎ (reason ≡ Memory)
 
--- The bytes of one event were read, of a payload at most 512, and the event is not reported.
-pub record IsWithheld (o : KeyOrder) (f : Refusal) (c : Call) : Type 0 where
+-- the head of a map
+abbrev pub IsMapHead : EventKind → Type 0
+IsMapHead (Map n) = Unit {0}
+IsMapHead kind = ⊥
+
+-- The bytes of one event were read, of a payload at most 512, and the event is not reported. The last keys of this number of
+-- open maps were stored.
+pub record IsWithheld (o : KeyOrder) (spans : ℕ) (f : Refusal) (c : Call) : Type 0 where
   pub width : Width
   pub kind : EventKind
   pub bytes : List ℕ
@@ -89,11 +97,13 @@ pub record IsWithheld (o : KeyOrder) (f : Refusal) (c : Call) : Type 0 where
   pub read : f.read ≡ length (c.taken ++ bytes)
   pub stands : StandsBetween c.new (c.taken ++ bytes) (c.reported ++ marks_of width kind)
   pub against : IsAgainstEvent o f.reason
+  -- memory is requested where a map opens or is open, and nowhere else
+  pub needed : f.reason ≡ Memory → (0 < spans) ⊎ IsMapHead kind
 
 -- No event was left out: after those reported, one is withheld, or a key of another kind begins, or the form refuses before
 -- another event ends.
-abbrev pub StopsAtOnce : KeyOrder → Refusal → Call → Type 0
-StopsAtOnce o f c = IsCut f c ⊎ IsTooLong f c ⊎ HasFormError f c ⊎ IsWithheld o f c ⊎ IsOtherKey f c
+abbrev pub StopsAtOnce : KeyOrder → ℕ → Refusal → Call → Type 0
+StopsAtOnce o spans f c = IsCut f c ⊎ IsTooLong f c ⊎ HasFormError f c ⊎ IsWithheld o spans f c ⊎ IsOtherKey f c
 
 -- No more is reported. The refusal is that of the bytes consumed before and of those that the reader held, and it counts all
 -- bytes that are consumed now.
@@ -102,7 +112,7 @@ pub record IsStrictRefusal (f : Refusal) (c : StrictCall) : Type 0 where
   pub bytes : List ℕ
   pub consumed : Consumes c.held c.left bytes
   pub read : f.read ≡ length (c.taken ++ bytes)
-  pub at_once : StopsAtOnce c.old.order f (form_call c)
+  pub at_once : StopsAtOnce c.old.order c.old.spans f (form_call c)
   pub verdict : IfSome c.held (λ rest. IsUnread (limits_of c.old) (strict c.old.order) (c.taken ++ rest) f)
 
 -- what a call returns

@@ -2,3 +2,4 @@
 pub mod LastKeys
 pub mod OpenItems
 pub mod StrictEvents
+pub mod WholeItem

@@ -1,7 +1,7 @@
 //! The last complete key of each open map, as encoded, in one buffer.
 
 ghost use Rattle.std.specs.Prelude.{◌≡◌, ◌-◌, ◌<◌, ◌≤◌, ◌++◌, ◌∷◌, ℕ, List, [], length, take, drop};
-ghost use Rattle.std.specs.Prelude.{IsTrue, ◌↔◌, OnOk, true};
+ghost use Rattle.std.specs.Prelude.{IsTrue, ◌↔◌, OnOk, OnErr, true};
 ghost use Rattle.cbor_head.specs.Order.{key_lt};
 ghost use Rattle.cbor_head.specs.Spelling.{Spelling, SpelledEntries, no_entries, entry, spell};
 ghost use Rattle.cbor_head.specs.declared.width.Width.{Width};
@@ -15,6 +15,7 @@ ghost use Rattle.cbor_strict.specs.inner.LastKeys.{still_open, ended_item};
 use crate::MOST_OPEN;
 use arrayvec::ArrayVec;
 use cbor_head::KeyOrder;
+use cbor_memory::Memory;
 use std::alloc::{AllocError, Global};
 use std::cmp::Ordering;
 use theory_values::compare_keys;
@@ -98,12 +99,15 @@ impl LastKeys {
     }
 
     // Stores the next bytes of an item, if it is in a key.
-    pub(crate) fn keep(&mut self, bytes: &[u8]) -> Result<(), AllocError>
-        ensures { (fs : List Frame) (p : List ℕ) → IsKept (view_value self.old) fs p
+    pub(crate) fn keep(&mut self, memory: &mut Memory, bytes: &[u8]) -> Result<(), AllocError>
+        ensures kept { (fs : List Frame) (p : List ℕ) → IsKept (view_value self.old) fs p
             → OnOk result (IsKept (view_value self.new) fs (p ++ bytes.now)) }
+        ensures inside { OnErr result (0 < (view_value self.old).open_keys) }
+        ensures granted { OnOk result (memory.new ≡ memory.old) }
+        ensures refused { OnErr result (IsTrue memory.new) }
     {
         if self.is_inside() {
-            return self.bytes.extend_from_slice(bytes);
+            return memory.extend(&mut self.bytes, bytes);
         }
         Ok(())
     }
@@ -118,19 +122,22 @@ impl LastKeys {
     }
 
     // Opens a map.
-    pub(crate) fn open_map(&mut self) -> Result<(), AllocError>
+    pub(crate) fn open_map(&mut self, memory: &mut Memory) -> Result<(), AllocError>
         requires levels { length (view_value self.old).levels < MOST_OPEN }
         requires keys { (view_value self.old).open_keys ≤ MOST_OPEN }
-        ensures { (w : Width) (v : Spelling) (b : SpelledEntries) (fs : List Frame) (p : List ℕ)
+        ensures opened { (w : Width) (v : Spelling) (b : SpelledEntries) (fs : List Frame) (p : List ℕ)
             → IsKept (view_value self.old) fs p → before (a_key w no_entries v b) ≡ p
             → OnOk result (IsKept (view_value self.new) (a_key w no_entries v b ∷ fs) []) }
+        ensures granted { OnOk result (memory.new ≡ memory.old) }
+        ensures refused { OnErr result (IsTrue memory.new) }
     {
         let here = self.bytes.len();
-        self.spans.push(KeySpan {
+        let span = KeySpan {
             from: here,
             to: here,
             next: here,
-        })?;
+        };
+        memory.push(&mut self.spans, span)?;
         self.levels.push(Expected::Key);
         self.open_keys += 1;
         Ok(())

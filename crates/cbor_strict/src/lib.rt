@@ -2,7 +2,7 @@
 //!
 //! Users call it through `cbor_reader`. [`check_canonical`] checks the item at the start of a slice and does not allocate;
 //! [`read_strict`] reads one item from a reader, and [`StrictReader`] gives its events. These two allocate only for the last key
-//! of each open map.
+//! of each open map. [`read_strict_in`] is `read_strict` with a record of whether a request for memory was refused.
 //!
 //! ```
 //! // {"Amt": -2, "Fun": true}
@@ -30,5 +30,5 @@ pub use cbor_head::KeyOrder;
 pub use last_keys::LastKeys;
 pub use open_items::OpenItems;
 pub use strict_events::StrictEvents;
-pub use strict_reader::{StrictReader, read_strict, read_strict_by};
+pub use strict_reader::{StrictReader, read_strict, read_strict_by, read_strict_in};
 pub use strict_slice::check_canonical;

@@ -1,11 +1,13 @@
 //! The next event of an item by the strict rules, from a reader.
 
-ghost use Rattle.std.specs.Prelude.{◌≡◌, ℕ, List, None, OnOk, IfErr};
+ghost use Rattle.std.specs.Prelude.{◌≡◌, ℕ, List, length, None, IsTrue, OnOk, IfErr};
+ghost use Rattle.cbor_head.specs.declared.reason.Reason.TheVariants as reasons;
 ghost use Rattle.theory_automaton.specs.Trace.{Mark};
 ghost use Rattle.theory_automaton.specs.Marks.{IsProper};
 ghost use Rattle.cbor_machine.specs.Machine.{KeepsLimits, IsIdle};
 ghost use Rattle.cbor_machine.specs.NextEvent.{IfReported, StandsBetween, call};
 ghost use Rattle.cbor_strict.specs.StrictReader.{StopsAtOnce};
+ghost use Rattle.cbor_strict.specs.inner.LastKeys.{view_value};
 ghost use Rattle.cbor_strict.specs.inner.StrictEvents.{StandsSomewhere, AnswersStep};
 
 use crate::open_items::OpenItems;
@@ -25,12 +27,15 @@ pub(crate) fn next_event<R: Read>(
     ensures answers { AnswersStep keys items.old items.new events.old events.new
         (R.remaining reader.old) (R.remaining reader.new) result }
     ensures at_once { IfErr result (λ f. (t : List ℕ) (ms : List Mark)
-        → StandsBetween events.old.machine t ms → StopsAtOnce items.old.order f
+        → StandsBetween events.old.machine t ms
+        → StopsAtOnce items.old.order (length (view_value items.old.keys).spans) f
         (call events.old events.new (R.remaining reader.old) (R.remaining reader.new) t ms)) }
     ensures limits { KeepsLimits events.old.machine events.new.machine }
     ensures proper { IfReported result (λ e. IsProper e.width e.kind) }
     ensures live { OnOk result (events.new.refusal ≡ None) }
     ensures taken { IfErr result (λ f. events.new.machine.taken ≡ f.read) }
+    ensures memory { IfErr result (λ f. f.reason ≡ reasons.Memory → IsTrue items.new.memory) }
+    ensures granted { OnOk result (items.new.memory ≡ items.old.memory) }
     ensures idle { IsIdle events.old.machine → reader.new ≡ reader.old }
 {
     let is_asked = items.asks(keys);

@@ -1,14 +1,15 @@
 //! The state of the strict reader: the open items, updated event by event.
 
-ghost use Rattle.std.specs.Prelude.{◌≡◌, ◌<◌, ◌≤◌, ◌+◌, ◌^◌, ◌++◌, ◌↔◌, ℕ, true, false, List, []};
+ghost use Rattle.std.specs.Prelude.{◌≡◌, ◌≢◌, ◌<◌, ◌≤◌, ◌+◌, ◌^◌, ◌++◌, ◌↔◌, ◌⊎◌, ℕ, true, false, List, []};
 ghost use Rattle.std.specs.Prelude.{length};
-ghost use Rattle.std.specs.Prelude.{OnOk, IfErr, MatchResult, IsUtf8};
+ghost use Rattle.std.specs.Prelude.{OnOk, OnErr, IfErr, IsTrue, MatchResult, IsUtf8};
 ghost use Rattle.std.specs.Str.Lossy.{utf8_valid_len};
 ghost use Rattle.cbor_head.specs.Head.{IsSimple, major_number, shortest_head};
+ghost use Rattle.cbor_head.specs.declared.reason.Reason.TheVariants as reasons;
 ghost use Rattle.cbor_head.specs.declared.width.Width.{Width};
 ghost use Rattle.cbor_text.specs.TextCheck.{HasChecked};
 ghost use Rattle.theory_automaton.specs.Trace.{a_head};
-ghost use Rattle.cbor_strict.specs.StrictReader.{IsAgainstEvent};
+ghost use Rattle.cbor_strict.specs.StrictReader.{IsAgainstEvent, IsMapHead};
 ghost use Rattle.theory_verdicts.specs.Frame.{Frame};
 ghost use Rattle.theory_verdicts.specs.Kinds.{IsKeyExpected};
 ghost use Rattle.cbor_strict.specs.inner.LastKeys.{IsKept, view_value, from_outside};
@@ -18,10 +19,13 @@ ghost use Rattle.cbor_strict.specs.inner.OpenItems.{IsPartCome, AnswersPart, IsB
 ghost use Rattle.cbor_strict.specs.inner.OpenItems.{AnswersBegun, IsEventCome, AnswersEvent};
 ghost use Rattle.cbor_strict.specs.inner.OpenItems.{IsSameString, IsLeaf, GoesOn};
 
+mod whole_item;
+
 use crate::head_faults::fault_of;
 use crate::last_keys::{Expected, LastKeys};
 use cbor_events::head_of;
 use cbor_head::{Event, EventKind, Head, KeyOrder, Keys, Major, Reason, Refusal};
+use cbor_memory::Memory;
 use cbor_text::TextCheck;
 use std::alloc::{AllocError, Global};
 
@@ -31,6 +35,8 @@ pub struct OpenItems {
     order: KeyOrder,
     /// The last keys of the open maps.
     pub keys: LastKeys,
+    /// Whether a request for memory was refused for this item.
+    pub memory: Memory,
     // How many bytes of a string's payload are still expected, and whether it is a text.
     left: u64,
     is_text: bool,
@@ -43,10 +49,12 @@ impl OpenItems {
         ensures kept { IsKept (view_value result.keys) [] [] }
         ensures none { result.left ≡ 0 }
         ensures order { result.order ≡ order }
+        ensures memory { result.memory ≡ false }
     {
         OpenItems {
             order,
             keys: LastKeys::new(alloc),
+            memory: Memory::new(),
             left: 0,
             is_text: false,
             check: TextCheck::new(),
@@ -58,9 +66,11 @@ impl OpenItems {
         ensures kept { IsKept (view_value self.new.keys) [] [] }
         ensures none { self.new.left ≡ 0 }
         ensures order { self.new.order ≡ order }
+        ensures memory { self.new.memory ≡ false }
     {
         self.order = order;
         self.keys.forget();
+        self.memory = Memory::new();
         self.left = 0;
     }
 
@@ -97,6 +107,10 @@ impl OpenItems {
         ensures answers { AnswersEvent self.old self.new event.now piece.now «open» taken result }
         ensures against { IfErr result (λ f. IsAgainstEvent self.old.order f.reason) }
         ensures read { IfErr result (λ f. f.read ≡ taken) }
+        ensures memory { IfErr result (λ f. f.reason ≡ reasons.Memory → IsTrue self.new.memory) }
+        ensures needed { IfErr result (λ f. f.reason ≡ reasons.Memory
+            → (0 < (view_value self.old.keys).open_keys) ⊎ IsMapHead event.now.kind) }
+        ensures granted { OnOk result (self.new.memory ≡ self.old.memory) }
     {
         if let EventKind::Piece(_) = event.kind {
             return self.admit_piece(piece, open, taken);
@@ -112,6 +126,10 @@ impl OpenItems {
         ensures answers { AnswersHead self.old self.new event.now «open» taken result }
         ensures against { IfErr result (λ f. IsAgainstEvent self.old.order f.reason) }
         ensures read { IfErr result (λ f. f.read ≡ taken) }
+        ensures memory { IfErr result (λ f. f.reason ≡ reasons.Memory → IsTrue self.new.memory) }
+        ensures needed { IfErr result (λ f. f.reason ≡ reasons.Memory
+            → (0 < (view_value self.old.keys).open_keys) ⊎ IsMapHead event.now.kind) }
+        ensures granted { OnOk result (self.new.memory ≡ self.old.memory) }
     {
         let Some((major, argument)) = head_of(event.kind) else {
             unreachable!()
@@ -130,6 +148,9 @@ impl OpenItems {
     fn keep_head(&mut self, major: Major, argument: u64) -> Result<(), AllocError>
         requires { major ≡ Major.Simple → IsSimple argument }
         ensures same { IsSameString self.old self.new }
+        ensures inside { OnErr result (0 < (view_value self.old.keys).open_keys) }
+        ensures refused { OnErr result (IsTrue self.new.memory) }
+        ensures granted { OnOk result (self.new.memory ≡ self.old.memory) }
         ensures kept { (fs : List Frame) → IsKept (view_value self.old.keys) fs []
             → OnOk result (IsKept (view_value self.new.keys) fs (shortest_head major argument)) }
     {
@@ -138,10 +159,10 @@ impl OpenItems {
         }
         if argument < 24 {
             let first = 32 * major.number() + argument as u8;
-            return self.keys.keep(&[first]);
+            return self.keys.keep(&mut self.memory, &[first]);
         }
         let head = Head::shortest(major, argument).bytes();
-        self.keys.keep(head.as_slice())
+        self.keys.keep(&mut self.memory, head.as_slice())
     }
 
     // Begins the item whose head was read.
@@ -151,6 +172,9 @@ impl OpenItems {
         ensures answers { AnswersBegun self.old self.new major argument «open» taken result }
         ensures against { IfErr result (λ f. IsAgainstEvent self.old.order f.reason) }
         ensures read { IfErr result (λ f. f.read ≡ taken) }
+        ensures memory { IfErr result (λ f. f.reason ≡ reasons.Memory → IsTrue self.new.memory) }
+        ensures needed { IfErr result (λ f. f.reason ≡ reasons.Memory → major ≡ Major.Map) }
+        ensures granted { OnOk result (self.new.memory ≡ self.old.memory) }
     {
         if !goes_on(major, argument) {
             return self.end_item(open, taken);
@@ -158,7 +182,7 @@ impl OpenItems {
         match major {
             Major::Bytes => self.begin_string(false, argument),
             Major::Text => self.begin_string(true, argument),
-            Major::Map => match self.keys.open_map() {
+            Major::Map => match self.keys.open_map(&mut self.memory) {
                 Ok(()) => {}
                 Err(_) => return Err(Refusal::at(Reason::Memory, taken)),
             },
@@ -170,6 +194,7 @@ impl OpenItems {
     // Expects a payload of this number of bytes.
     fn begin_string(&mut self, is_text: bool, count: u64)
         ensures same { (self.new.order ≡ self.old.order) × (self.new.keys ≡ self.old.keys) }
+        ensures memory { self.new.memory ≡ self.old.memory }
         ensures expected { (self.new.left ≡ count) × (self.new.is_text ≡ is_text) }
         ensures checked { HasChecked self.new.check [] }
     {
@@ -185,8 +210,12 @@ impl OpenItems {
         ensures answers { AnswersPart self.old self.new piece.now «open» taken result }
         ensures against { IfErr result (λ f. IsAgainstEvent self.old.order f.reason) }
         ensures read { IfErr result (λ f. f.read ≡ taken) }
+        ensures memory { IfErr result (λ f. f.reason ≡ reasons.Memory → IsTrue self.new.memory) }
+        ensures needed { IfErr result (λ f. f.reason ≡ reasons.Memory
+            → 0 < (view_value self.old.keys).open_keys) }
+        ensures granted { OnOk result (self.new.memory ≡ self.old.memory) }
     {
-        match self.keys.keep(piece) {
+        match self.keys.keep(&mut self.memory, piece) {
             Ok(()) => {}
             Err(_) => return Err(Refusal::at(Reason::Memory, taken)),
         }
@@ -209,6 +238,7 @@ impl OpenItems {
         requires space { self.old.is_text ≡ true
             → self.old.check.pushed + length piece.now < 2 ^ 64 }
         ensures same { (self.new.order ≡ self.old.order) × (self.new.keys ≡ self.old.keys) }
+        ensures memory { self.new.memory ≡ self.old.memory }
         ensures text { self.new.is_text ≡ self.old.is_text }
         ensures left { self.new.left + length piece.now ≡ self.old.left }
         ensures checked { (q : List ℕ) → self.old.is_text ≡ true → HasChecked self.old.check q
@@ -242,6 +272,8 @@ impl OpenItems {
         ensures answers { AnswersEnd self.old self.new «open» taken result }
         ensures against { IfErr result (λ f. IsAgainstEvent self.old.order f.reason) }
         ensures read { IfErr result (λ f. f.read ≡ taken) }
+        ensures never { IfErr result (λ f. f.reason ≢ reasons.Memory) }
+        ensures granted { OnOk result (self.new.memory ≡ self.old.memory) }
     {
         self.keys.close(open);
         match self.keys.expected() {

@@ -1,8 +1,9 @@
 //! The events of one item by the strict rules, from a reader that is passed to each call.
 
-ghost use Rattle.std.specs.Prelude.{◌≡◌, ◌≤◌, ℕ, List, [], length, None, Some, Err};
-ghost use Rattle.std.specs.Prelude.{IfErr, IfSome, OnOk, OnErr};
+ghost use Rattle.std.specs.Prelude.{◌≡◌, ◌≤◌, ℕ, List, [], length, None, Some, Err, false};
+ghost use Rattle.std.specs.Prelude.{IsTrue, IfErr, IfSome, OnOk, OnErr};
 ghost use Rattle.cbor_head.specs.Complaint.{strict};
+ghost use Rattle.cbor_head.specs.declared.reason.Reason.TheVariants as reasons;
 ghost use Rattle.theory_automaton.specs.Trace.{Mark};
 ghost use Rattle.theory_automaton.specs.Marks.{IsProper};
 ghost use Rattle.cbor_machine.specs.Machine.{KeepsLimits, IsIdle};
@@ -17,6 +18,7 @@ use crate::next_event::next_event;
 use crate::open_items::OpenItems;
 use cbor_events::ItemEvents;
 use cbor_head::{Event, KeyOrder, Keys, Limits, Refusal};
+use cbor_memory::Memory;
 use std::alloc::Global;
 use std::io::Read;
 use std::marker::Model;
@@ -45,6 +47,7 @@ impl Model for StrictEvents {
       spans = length (view_value e.items.keys).spans;
       kept = length (view_value e.items.keys).bytes;
       refusal = e.refusal;
+      refused = e.items.memory;
       inner = record { events = e.events; items = e.items };
     } };
 
@@ -58,6 +61,7 @@ impl StrictEvents {
         ensures limits { limits_of result ≡ limits }
         ensures order { result.order ≡ order }
         ensures piece { result.piece ≡ [] }
+        ensures memory { result.refused ≡ false }
     {
         StrictEvents {
             events: ItemEvents::new(limits),
@@ -72,6 +76,7 @@ impl StrictEvents {
         ensures starts { StandsStrictly self.new [] [] }
         ensures limits { limits_of self.new ≡ limits_of self.old }
         ensures order { self.new.order ≡ order }
+        ensures memory { self.new.refused ≡ false }
     {
         self.events.restart();
         self.items.restart(order);
@@ -94,6 +99,8 @@ impl StrictEvents {
             × IsReaderReason (limits_of self.old) (strict self.old.order) f.reason) }
         ensures emptied { OnErr result ((self.new.piece ≡ [])
             × (self.new.spans ≡ 0) × (self.new.kept ≡ 0)) }
+        ensures memory { IfErr result (λ f. f.reason ≡ reasons.Memory → IsTrue self.new.refused) }
+        ensures granted { OnOk result (self.new.refused ≡ self.old.refused) }
 
         // If nothing is expected, and after a refusal, the reader is not called.
         ensures idle { IsIdle self.old.machine → reader.new ≡ reader.old }
@@ -123,6 +130,13 @@ impl StrictEvents {
             None => self.events.piece(),
             Some(_) => &[],
         }
+    }
+
+    // Whether a request for memory was refused.
+    pub(crate) fn memory(&self) -> &Memory
+        ensures { result.now ≡ self.now.refused }
+    {
+        &self.items.memory
     }
 
     // The number of arrays, maps and tags that are open.

@@ -1,7 +1,7 @@
 //! The item at the start of an input, if it is canonical: its length, or its events.
 
-ghost use Rattle.std.specs.Prelude.{◌≡◌, ◌≢◌, ◌≤◌, ℕ, List, [], length, None, Some, Err};
-ghost use Rattle.std.specs.Prelude.{IfOk, IfErr, IfSome, OnOk, OnErr};
+ghost use Rattle.std.specs.Prelude.{◌≡◌, ◌≢◌, ◌≤◌, ℕ, List, [], length, None, Some, Err, false};
+ghost use Rattle.std.specs.Prelude.{IsTrue, IfOk, IfErr, IfSome, OnOk, OnErr};
 ghost use Rattle.cbor_head.specs.Complaint.{strict};
 ghost use Rattle.cbor_head.specs.declared.reason.Reason.TheVariants as reasons;
 ghost use Rattle.theory_automaton.specs.Trace.{Mark};
@@ -16,6 +16,7 @@ ghost use Rattle.cbor_strict.specs.StrictReader.{IsNextStrict, limits_of, strict
 
 use crate::strict_events::StrictEvents;
 use cbor_head::{Event, KeyOrder, Limits, Refusal};
+use cbor_memory::Memory;
 use std::alloc::Global;
 use std::io::Read;
 use std::marker::Model;
@@ -49,7 +50,39 @@ pub fn read_strict<R: Read>(
     ensures read { IfErr result
         (λ f. Loses f.read (R.remaining reader.old) (R.remaining reader.new)) }
 {
-    read_strict_by(&mut StrictEvents::new(alloc, limits, order), reader, order)
+    read_strict_in(alloc, &mut Memory::new(), reader, limits, order)
+}
+
+/// As [`read_strict`], and records whether a request for memory was refused: only then is the refusal
+/// `Memory`.
+pub fn read_strict_in<R: Read>(
+    alloc: Global,
+    memory: &mut Memory,
+    reader: &mut R,
+    limits: Limits,
+    order: KeyOrder,
+) -> Result<u64, Refusal>
+    ensures accepted { IfOk result (λ count. IfSome (R.remaining reader.old)
+        (λ input. IsRead limits (strict order) input count)) }
+    ensures canonical { IfOk result (λ count. IfSome (R.remaining reader.old)
+        (λ input. IsCanonicalPrefix limits order input count)) }
+    ensures taken { IfOk result
+        (λ count. Loses count (R.remaining reader.old) (R.remaining reader.new)) }
+    ensures refused { IfErr result (λ f. IfSome (R.remaining reader.old)
+        (λ input. IsUnread limits (strict order) input f)) }
+    ensures reason { IfErr result (λ f. IsReaderReason limits (strict order) f.reason) }
+    ensures no_canonical { IfErr result (λ f. f.reason ≢ reasons.Read → f.reason ≢ reasons.Memory
+        → IfSome (R.remaining reader.old)
+        (HasNoCanonicalPrefix limits order)) }
+    ensures read { IfErr result
+        (λ f. Loses f.read (R.remaining reader.old) (R.remaining reader.new)) }
+    ensures memory { IfErr result (λ f. f.reason ≡ reasons.Memory → IsTrue memory.new) }
+    ensures granted { OnOk result (memory.new ≡ memory.old) }
+{
+    let mut events = StrictEvents::new(alloc, limits, order);
+    let result = read_strict_by(&mut events, reader, order);
+    memory.include(events.memory());
+    result
 }
 
 /// Checks an item by events that the caller reuses for each item, in any state.
@@ -74,6 +107,8 @@ pub fn read_strict_by<R: Read>(
         (HasNoCanonicalPrefix (limits_of events.old) order)) }
     ensures read { IfErr result
         (λ f. Loses f.read (R.remaining reader.old) (R.remaining reader.new)) }
+    ensures memory { IfErr result (λ f. f.reason ≡ reasons.Memory → IsTrue events.new.refused) }
+    ensures granted { OnOk result (events.new.refused ≡ false) }
 {
     events.restart(order);
     'events: loop {
@@ -115,6 +150,7 @@ impl<R: Read> StrictReader<R> {
         ensures order { result.events.order ≡ order }
         ensures keys { result.events.keys ≡ limits.keys }
         ensures piece { result.events.piece ≡ [] }
+        ensures memory { result.events.refused ≡ false }
         ensures same { result.reader ≡ reader }
     {
         StrictReader {
@@ -143,6 +179,9 @@ impl<R: Read> StrictReader<R> {
             × IsReaderReason (limits_of self.old.events) (strict self.old.events.order) f.reason) }
         ensures emptied { OnErr result ((self.new.events.piece ≡ [])
             × (self.new.events.spans ≡ 0) × (self.new.events.kept ≡ 0)) }
+        ensures memory { IfErr result
+            (λ f. f.reason ≡ reasons.Memory → IsTrue self.new.events.refused) }
+        ensures granted { OnOk result (self.new.events.refused ≡ self.old.events.refused) }
 
         // If nothing is expected, and after a refusal, the reader is not called.
         ensures idle { IsIdle self.old.events.machine → self.new.reader ≡ self.old.reader }

@@ -1,2 +1,3 @@
+pub mod Hidden
 pub mod TextCheck
 pub mod inner

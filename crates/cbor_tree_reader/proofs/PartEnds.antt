@@ -8,7 +8,7 @@ use Rattle.theory_values.specs.Parts.{IsInContainer, Open, plain as a_plain, giv
 use Rattle.cbor_machine.specs.NextEvent.{ItemEventsView}
 use Rattle.cbor_builder.specs.Built.{Built, built, HasKey, IsRepeatedKey, HasDistinctKeysSoFar}
 use Rattle.cbor_item.specs.OpenValues as trees
-use Rattle.cbor_item.specs.OpenValues.{OpenItem, MayEnd}
+use Rattle.cbor_item.specs.{declared.item.Item.Item, OpenValues.Building, OpenValues.MayEnd}
 use Rattle.theory_verdicts.specs.Place.{Place, at_item, close, done as at_end, open_at}
 use Rattle.theory_verdicts.specs.Levels.{IsTaken, Level, a_key, a_value, some_key, some_value, frame, AreLevels, bytes_before, ParseState, item_expected, item_full, item_whole, settle}
 use Rattle.theory_verdicts.specs.Given.{level_open, opens, StandsAt}
@@ -157,7 +157,7 @@ module _ (v : TreeItems) (b : Bounds) (e : ItemEventsView) (t : List ℕ) (h : I
           apart = subst (λ (g : Built). AreApart g.open_levels) (sym same) apart;
           begun = subst (λ (xs : Vec ℕ Global). HaveBegun xs.items ls) (sym starts) begun;
           held = held;
-          tree = subst (λ (z : List OpenItem). IsTreeAt z (item_expected ls)) (sym same_tree) tree;
+          tree = subst (λ (z : Building Item). IsTreeAt z (item_expected ls)) (sym same_tree) tree;
           kinds = same_kinds ∙ h.kinds;
           keeps = h.keeps;
         }
@@ -177,7 +177,7 @@ module _ (v : TreeItems) (b : Bounds) (e : ItemEventsView) (t : List ℕ) (h : I
           is = s.0;
           taken = s.1;
           at = at-as b e t t h.q at_end refl s.2 h.at;
-          tree = subst (λ (z : List OpenItem). IsTreeAt z (item_whole u)) (sym same_tree) tree;
+          tree = subst (λ (z : Building Item). IsTreeAt z (item_whole u)) (sym same_tree) tree;
           keeps = h.keeps;
         }
 

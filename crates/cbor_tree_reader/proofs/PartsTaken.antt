@@ -1,5 +1,5 @@
 -- A part that was read where an item is expected: what it makes of the path, and why it is refused.
-use Rattle.std.proofs.Common.{◌≡◌, ◌≢◌, ℕ, suc, ◌+◌, ◌-◌, ◌^◌, ◌<◌, ◌≤◌, Option, List, [], ◌∷◌, ◌++◌, length, map, take, slice_get, Some, refl, sym, ap, ap₂, ◌∙◌, subst, inl, arith, append-nil, length-append}
+use Rattle.std.proofs.Common.{◌≡◌, ◌≢◌, ℕ, suc, ◌+◌, ◌-◌, ◌^◌, ◌<◌, ◌≤◌, Bool, Option, List, [], ◌∷◌, ◌++◌, length, map, take, slice_get, Some, refl, sym, ap, ap₂, ◌∙◌, subst, inl, arith, append-nil, length-append}
 use Rattle.std.{specs.Io.KnownBytes.Consumes, proofs.KnownBytes.Consumes-trans, proofs.lemmas.List.length-map}
 use Rattle.cbor_head.specs.Prelude.{head, canonical, Bounds, Value, spell, spell_all, spellings_count, value_of, plain}
 use Rattle.cbor_head.specs.declared.major.Major.TheVariants as majors
@@ -99,7 +99,7 @@ module _ (v : TreeItems) (b : Bounds) (e : ItemEventsView) (t : List ℕ) (d : I
           ap (λ (xs : List ℕ). slice_get xs (length d.ls)) starts ∙ ap (λ (i : ℕ). slice_get (take height v.starts.items ++ place ∷ []) i) (sym level) ∙ begins-at v.starts.items height place space
           ∙ ap (λ (i : ℕ). Some i) (same_place ∙ n.place ∙ ap length d.taken)
 
-      placed-ending : (part : ItemPart) (vs : List OpenValue) → values_with part (level_values d.ls) ≡ vs → trees.open_levels now.tree ≡ values_with part (trees.open_levels v.tree) → (x : List ℕ) (q : Place) (os : List Open) (count : ℕ) → IsAt b new (t ++ x) q → (l : IsPlaced v.builder.order b.depth (bytes_before d.ls ++ x) q os (length d.ls + count) now.starts.items vs) → now.builder ≡ built v.builder.order os
+      placed-ending : (part : ItemPart) (vs : List OpenValue) → values_with part (level_values d.ls) ≡ vs → trees.open_levels now.tree ≡ values_with part (trees.open_levels v.tree) → (x : List ℕ) (q : Place) (os : List Open) (count : ℕ) → IsAt b new (t ++ x) q → (l : IsPlaced v.builder.order b.depth (bytes_before d.ls ++ x) q os (length d.ls + count) now.starts.items vs) → {refused : Bool} → now.builder ≡ record { order = v.builder.order; open_levels = os; refused = refused }
           → AreApartSoFar os → AreHeldSoFar (sets now) os → KeepsToKinds b plain (t ++ x) → IsEndingAt now b new (t ++ x) (height + count)
       placed-ending part vs vs_are step x q os count at l is apart held keeps = record {
         q = q;

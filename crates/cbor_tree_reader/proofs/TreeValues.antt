@@ -4,7 +4,8 @@ use Rattle.cbor_head.specs.Prelude.{Spelling, Spellings, SpelledEntries, array, 
 use Rattle.cbor_head.specs.Value as value
 use Rattle.theory_values.specs.Lists as lists
 use Rattle.cbor_item.specs.OpenValues as parts
-use Rattle.cbor_item.specs.OpenValues.{OpenItem, OpenValue, open_levels, an_array, give, closed, close, TakesValue, MayEnd, CanEnd, CanHold, IsWhole}
+use Rattle.cbor_item.specs.OpenValues.{Building, OpenValue, open_levels, an_array, give, closed, close, TakesValue, MayEnd, CanEnd, CanHold, IsWhole}
+use Rattle.cbor_item.specs.declared.item.Item.{Item}
 use Rattle.theory_verdicts.specs.Levels.{Level, a_member, a_value, some_member, some_value, tagged, ParseState, item_expected, item_full, item_whole, settle}
 use Rattle.theory_verdicts.specs.Frame.{with_all, with_entries}
 use Rattle.cbor_tree_reader.specs.TreeValues.{member_values, pair_values, level_value, level_values, full_value, values_at, IsContainer, IsFullRight, IsTreeAt}
@@ -44,7 +45,7 @@ settles-right (a_value w zero done k ∷ ls) s = tt
 settles-right _ s = tt
 
 -- from one position to another
-pub tree-step : (f : List OpenValue → List OpenValue) (old new : List OpenItem) (x y : ParseState) → IsTreeAt old x → open_levels new ≡ f (open_levels old) → f (values_at x) ≡ values_at y → IsFullRight y → IsTreeAt new y
+pub tree-step : (f : List OpenValue → List OpenValue) (old new : Building Item) (x y : ParseState) → IsTreeAt old x → open_levels new ≡ f (open_levels old) → f (values_at x) ≡ values_at y → IsFullRight y → IsTreeAt new y
 tree-step f old new x y h step is right = (right, step ∙ ap f h.1 ∙ is)
 
 -- ---- a container ends
@@ -73,14 +74,14 @@ may-end c [] h = (h, refl)
 may-end c (l ∷ ls) h = (h, level-holds l)
 
 -- a part may begin
-pub tree-takes : (os : List OpenItem) (ls : List Level) → IsTreeAt os (item_expected ls) → TakesValue (open_levels os)
+pub tree-takes : (os : Building Item) (ls : List Level) → IsTreeAt os (item_expected ls) → TakesValue (open_levels os)
 tree-takes os ls h = subst TakesValue (sym h.1) (levels-take ls)
 
-pub tree-may-end : (os : List OpenItem) (ls : List Level) (s : Spelling) → IsTreeAt os (item_full ls s) → MayEnd (open_levels os)
+pub tree-may-end : (os : Building Item) (ls : List Level) (s : Spelling) → IsTreeAt os (item_full ls s) → MayEnd (open_levels os)
 tree-may-end os ls s h = subst MayEnd (sym h.1) (may-end (full_value s) ls (full-ends s h.0))
 
 pub values-ended : (ls : List Level) (s : Spelling) → close (values_at (item_full ls s)) ≡ values_at (settle ls s)
 values-ended ls s = ap (λ (v : Value). give v (level_values ls)) (full-closed s) ∙ values-given ls s
 
-pub whole-in : (os : List OpenItem) (s : Spelling) → IsTreeAt os (item_whole s) → IsWhole (open_levels os)
+pub whole-in : (os : Building Item) (s : Spelling) → IsTreeAt os (item_whole s) → IsWhole (open_levels os)
 whole-in os s h = subst IsWhole (sym h.1) tt

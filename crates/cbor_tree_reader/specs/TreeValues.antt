@@ -3,7 +3,8 @@ use Rattle.std.specs.Prelude.{◌≡◌, true, List, [], ◌∷◌, IsUtf8}
 use Rattle.cbor_head.specs.Prelude.{Spelling, Spellings, SpelledEntries, array, a_map, tag, no_spellings, a_spelling, no_entries, entry, value_of, Value}
 use Rattle.cbor_builder.specs.Built.{IsContainer as IsOpener}
 use Rattle.cbor_item.specs.OpenValues as parts
-use Rattle.cbor_item.specs.OpenValues.{OpenItem, OpenValue, the_whole, an_array, a_tag, open_levels, give, opened}
+use Rattle.cbor_item.specs.OpenValues.{Building, OpenValue, the_whole, an_array, a_tag, open_levels, give, opened}
+use Rattle.cbor_item.specs.declared.item.Item.{Item}
 use Rattle.theory_verdicts.specs.Levels.{Level, a_member, a_key, a_value, some_member, some_key, some_value, tagged, ParseState, item_expected, item_full, item_whole}
 use Rattle.theory_verdicts.specs.Reading.{string_value}
 use Rattle.cbor_tree_reader.specs.declared.item_part.ItemPart.TheVariants.{Leaf, String, Begin, Break}
@@ -55,8 +56,8 @@ IsFullRight (item_full ls s) = IsContainer s
 IsFullRight st = Unit {0}
 
 -- the tree builder is at the same position
-abbrev pub IsTreeAt : List OpenItem → ParseState → Type 0
-IsTreeAt os st = IsFullRight st × (open_levels os ≡ values_at st)
+abbrev pub IsTreeAt : Building Item → ParseState → Type 0
+IsTreeAt tree st = IsFullRight st × (open_levels tree ≡ values_at st)
 
 -- ---- parts
 

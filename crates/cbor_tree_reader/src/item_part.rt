@@ -1,10 +1,12 @@
 //! The parts of an item, as the tree reader reads them.
 
+ghost use Rattle.std.specs.Prelude.{◌≡◌, IfErr, IsTrue};
 ghost use Rattle.cbor_tree_reader.specs.inner.PlainParts.{HasCome, AnswersPart};
 
 use crate::strings::read_string;
 use cbor_events::{ItemEvents, head_of};
-use cbor_head::{EventKind, Major, Refusal};
+use cbor_head::{EventKind, Major, Reason, Refusal};
+use cbor_memory::Memory;
 use std::alloc::Global;
 use std::io::Read;
 
@@ -23,24 +25,26 @@ pub(crate) enum ItemPart {
 
 // The part that an event begins where an item is expected.
 pub(crate) fn read_part<R: Read>(
+    memory: &mut Memory,
     alloc: Global,
     events: &mut ItemEvents,
     reader: &mut R,
     kind: EventKind,
 ) -> Result<ItemPart, Refusal>
     requires { HasCome events.old kind }
-    ensures { AnswersPart events.old kind
+    ensures memory { IfErr result (λ f. f.reason ≡ Reason.Memory → IsTrue memory.new) }
+    ensures part { AnswersPart events.old kind
         (R.remaining reader.old) (R.remaining reader.new) events.new result }
 {
     match kind {
         EventKind::Bytes(length) => {
-            match read_string(alloc, events, reader, false, length) {
+            match read_string(memory, alloc, events, reader, false, length) {
                 Ok(content) => Ok(ItemPart::String(false, content)),
                 Err(refusal) => Err(refusal),
             }
         }
         EventKind::Text(length) => {
-            match read_string(alloc, events, reader, true, length) {
+            match read_string(memory, alloc, events, reader, true, length) {
                 Ok(content) => Ok(ItemPart::String(true, content)),
                 Err(refusal) => Err(refusal),
             }

@@ -1,6 +1,6 @@
 //! The item at the start of what a reader gives.
 
-ghost use Rattle.std.specs.Prelude.{◌≡◌, OnOk, MatchResult};
+ghost use Rattle.std.specs.Prelude.{◌≡◌, IfErr, IsTrue, OnOk, MatchResult};
 ghost use Rattle.cbor_head.specs.Complaint.{plain};
 ghost use Rattle.cbor_item.specs.View.{view};
 ghost use Rattle.cbor_tree_reader.specs.Prefix.{IsPrefixRead};
@@ -13,12 +13,14 @@ use crate::tree_items::TreeItems;
 use cbor_events::ItemEvents;
 use cbor_head::{Limits, Reason, Refusal};
 use cbor_item::Item;
+use cbor_memory::Memory;
 use std::alloc::Global;
 use std::io::Read;
 
 /// The valid item that the reader's bytes begin with, and its size in bytes. The events are reset
 /// for it. No byte after the item or after its first complaint is read.
 pub(crate) fn read_item_prefix<R: Read>(
+    memory: &mut Memory,
     alloc: Global,
     events: &mut ItemEvents,
     reader: &mut R,
@@ -28,6 +30,7 @@ pub(crate) fn read_item_prefix<R: Read>(
         × (events.old.machine.bytes ≡ limits.bytes) }
     ensures limits { OnOk result ((events.new.machine.depth ≡ limits.depth)
         × (events.new.machine.bytes ≡ limits.bytes)) }
+    ensures memory { IfErr result (λ f. f.reason ≡ Reason.Memory → IsTrue memory.new) }
     ensures prefix { MatchResult result
         (λ answer. IsPrefixRead plain limits
         (R.remaining reader.old) (R.remaining reader.new) (view answer.0) answer.1)
@@ -35,7 +38,7 @@ pub(crate) fn read_item_prefix<R: Read>(
 {
     events.restart();
     let mut items = TreeItems::new(alloc, limits.keys());
-    match read_parts(alloc, events, &mut items, reader) {
+    match read_parts(memory, alloc, events, &mut items, reader) {
         Ok(()) => {
             let item = items.into_item();
             let size = events.taken();
@@ -47,17 +50,19 @@ pub(crate) fn read_item_prefix<R: Read>(
 
 // Reads the remaining parts of the item.
 fn read_parts<R: Read>(
+    memory: &mut Memory,
     alloc: Global,
     events: &mut ItemEvents,
     items: &mut TreeItems,
     reader: &mut R,
 ) -> Result<(), Refusal>
     requires { IsExpectedSomewhere items.old events.old }
-    ensures { AnswersParts items.old items.new events.old events.new
+    ensures memory { IfErr result (λ f. f.reason ≡ Reason.Memory → IsTrue memory.new) }
+    ensures parts { AnswersParts items.old items.new events.old events.new
         (R.remaining reader.old) (R.remaining reader.new) result }
 {
     'parts: loop {
-        match next_part(alloc, events, items, reader) {
+        match next_part(memory, alloc, events, items, reader) {
             Ok(true) => {}
             Ok(false) => return Ok(()),
             Err(refusal) => return Err(refusal),
@@ -67,13 +72,15 @@ fn read_parts<R: Read>(
 
 // Reads the next part of the item. Returns whether the item goes on after it.
 fn next_part<R: Read>(
+    memory: &mut Memory,
     alloc: Global,
     events: &mut ItemEvents,
     items: &mut TreeItems,
     reader: &mut R,
 ) -> Result<bool, Refusal>
     requires { IsExpectedSomewhere items.old events.old }
-    ensures { AnswersNextPart items.old items.new events.old events.new
+    ensures memory { IfErr result (λ f. f.reason ≡ Reason.Memory → IsTrue memory.new) }
+    ensures part { AnswersNextPart items.old items.new events.old events.new
         (R.remaining reader.old) (R.remaining reader.new) result }
 {
     let height = events.open();
@@ -81,20 +88,20 @@ fn next_part<R: Read>(
         Ok(event) => event,
         Err(refusal) => return Err(refusal),
     };
-    let part = match read_part(alloc, events, reader, event.kind) {
+    let part = match read_part(memory, alloc, events, reader, event.kind) {
         Ok(part) => part,
         Err(refusal) => return Err(refusal),
     };
-    let opened = match items.give(alloc, height, event.place, part) {
+    let opened = match items.give(memory, alloc, height, event.place, part) {
         Ok(opened) => opened,
         Err(_) => return Err(no_memory(events)),
     };
     let open = events.open();
-    match items.end_full(height + opened, open) {
+    match items.end_full(memory, height + opened, open) {
         Ok(()) => {}
         Err(_) => return Err(no_memory(events)),
     }
-    match items.repeated(alloc, open) {
+    match items.repeated(memory, alloc, open) {
         Ok(None) => Ok(open > 0),
         Ok(Some(place)) => Err(Refusal::new(Reason::RepeatedKey, place, events.taken())),
         Err(_) => Err(no_memory(events)),

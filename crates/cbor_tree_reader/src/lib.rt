@@ -13,4 +13,4 @@ mod tree_items;
 mod tree_parts;
 mod tree_reader;
 
-pub use tree_reader::{read_tree, read_tree_by};
+pub use tree_reader::{read_tree, read_tree_by, read_tree_in};

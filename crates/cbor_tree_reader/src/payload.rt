@@ -1,10 +1,11 @@
 //! The bytes of strings.
 
-ghost use Rattle.std.specs.Prelude.{◌≡◌, false};
+ghost use Rattle.std.specs.Prelude.{◌≡◌, IfErr, IsTrue, false};
 ghost use Rattle.theory_verdicts.specs.Reading.{IsPayloadExpected, AnswersPayload};
 
 use cbor_events::ItemEvents;
 use cbor_head::{Reason, Refusal};
+use cbor_memory::Memory;
 use cbor_text::check_text;
 use std::io::Read;
 
@@ -20,13 +21,15 @@ pub(crate) fn no_memory(events: &ItemEvents) -> Refusal
 // Appends a payload of this number of bytes in the parts that arrive: nothing is allocated for
 // bytes that do not arrive.
 pub(crate) fn read_payload<R: Read>(
+    memory: &mut Memory,
     events: &mut ItemEvents,
     reader: &mut R,
     count: u64,
     into: &mut Vec<u8>,
 ) -> Result<(), Refusal>
     requires { IsPayloadExpected events.old count }
-    ensures { AnswersPayload false events.old count into.old.items into.new.items
+    ensures memory { IfErr result (λ f. f.reason ≡ Reason.Memory → IsTrue memory.new) }
+    ensures payload { AnswersPayload false events.old count into.old.items into.new.items
         (R.remaining reader.old) (R.remaining reader.new) events.new result }
 {
     let mut left = count;
@@ -37,7 +40,7 @@ pub(crate) fn read_payload<R: Read>(
             Err(refusal) => return Err(refusal),
         }
         let piece = events.piece();
-        match into.extend_from_slice(piece) {
+        match memory.extend(into, piece) {
             Ok(()) => {}
             Err(_) => return Err(no_memory(events)),
         }
@@ -49,6 +52,7 @@ pub(crate) fn read_payload<R: Read>(
 // Reads the payload of a definite string or a chunk, which must be UTF-8 if it is of a text. The
 // offset of a refused text is that after its longest prefix that is UTF-8.
 pub(crate) fn read_chunk<R: Read>(
+    memory: &mut Memory,
     events: &mut ItemEvents,
     reader: &mut R,
     text: bool,
@@ -56,12 +60,13 @@ pub(crate) fn read_chunk<R: Read>(
     into: &mut Vec<u8>,
 ) -> Result<(), Refusal>
     requires { IsPayloadExpected events.old count }
-    ensures { AnswersPayload text events.old count into.old.items into.new.items
+    ensures memory { IfErr result (λ f. f.reason ≡ Reason.Memory → IsTrue memory.new) }
+    ensures payload { AnswersPayload text events.old count into.old.items into.new.items
         (R.remaining reader.old) (R.remaining reader.new) events.new result }
 {
     let from = into.len();
     let place = events.taken();
-    match read_payload(events, reader, count, into) {
+    match read_payload(memory, events, reader, count, into) {
         Ok(()) => {}
         Err(refusal) => return Err(refusal),
     }

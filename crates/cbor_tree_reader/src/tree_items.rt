@@ -1,7 +1,7 @@
 //! The state of the tree reader: the open items, updated event by event.
 
-ghost use Rattle.std.specs.Prelude.{◌≡◌, ◌<◌, ◌∷◌, ◌↔◌, [], List, IfOk, None, true};
-ghost use Rattle.std.specs.Prelude.{take, ◌++◌, OnOk, Option};
+ghost use Rattle.std.specs.Prelude.{◌≡◌, ◌≢◌, ◌<◌, ◌∷◌, ◌↔◌, [], List, IfOk, IfErr, None, true};
+ghost use Rattle.std.specs.Prelude.{take, ◌++◌, IsTrue, OnOk, OnErr, Option};
 ghost use Rattle.cbor_builder.specs.Built.{built, IsKeyExpected};
 ghost use Rattle.theory_values.specs.Parts.{plain};
 ghost use Rattle.cbor_head.specs.Spelling.{Spelling, value_of};
@@ -20,8 +20,9 @@ use crate::key_set::KeySet;
 use crate::tree_parts::give_to_tree;
 use cbor_builder::CanonBuilder;
 use cbor_events::ItemEvents;
-use cbor_head::{Event, KeyOrder, Keys, Major, Refusal};
+use cbor_head::{Event, KeyOrder, Keys, Major, Reason, Refusal};
 use cbor_item::{Item, TreeBuilder};
+use cbor_memory::Memory;
 use std::alloc::{AllocError, Global};
 use std::io::Read;
 use std::mem;
@@ -79,7 +80,8 @@ impl TreeItems {
         reader: &mut R,
     ) -> Result<Event, Refusal>
         requires { IsExpectedSomewhere self.now events.old }
-        ensures { AnswersExpected self.now events.old
+        ensures reason { IfErr result (λ f. f.reason ≢ Reason.Memory) }
+        ensures expected { AnswersExpected self.now events.old
             (R.remaining reader.old) (R.remaining reader.new) events.new result }
     {
         match events.next_by_kind(self.asks(), reader) {
@@ -93,6 +95,7 @@ impl TreeItems {
     // containers. Returns the number of containers that it opens, 0 or 1.
     pub(crate) fn give(
         &mut self,
+        memory: &mut Memory,
         alloc: Global,
         height: usize,
         place: u64,
@@ -101,6 +104,8 @@ impl TreeItems {
         requires bytes { CanTake self.old.builder part }
         requires fits { IsForTree part }
         requires tree { TakesValue (open_levels self.old.tree) }
+        ensures kept { OnOk result (memory.new ≡ memory.old) }
+        ensures refused { OnErr result (IsTrue memory.new) }
         ensures starts { OnOk result
             (self.new.starts.items ≡ take height self.old.starts.items ++ place ∷ []) }
         ensures kinds { self.new.kinds ≡ self.old.kinds }
@@ -110,12 +115,13 @@ impl TreeItems {
         ensures sets { IfOk result (λ opened. AreKeysBegun opened (sets self.old) (sets self.new)) }
     {
         self.starts.truncate(height);
-        self.starts.push(place)?;
-        let opened = give_to_builder(&mut self.builder, &part)?;
-        give_to_tree(&mut self.tree, part)?;
+        memory.push(&mut self.starts, place)?;
+        let opened = give_to_builder(memory, &mut self.builder, &part)?;
+        give_to_tree(memory, &mut self.tree, part)?;
         if opened > 0 {
+            memory.reserve(&mut self.outer, 1)?;
             let around = mem::replace(&mut self.keys, KeySet::new(alloc));
-            self.outer.push(around)?;
+            self.outer.push_reserved(around);
         }
         Ok(opened)
     }
@@ -135,15 +141,22 @@ impl TreeItems {
 
     // Ends the containers that are full, the innermost first: `height` are open, and `open` of them
     // stay open.
-    pub(crate) fn end_full(&mut self, height: usize, open: usize) -> Result<(), AllocError>
+    pub(crate) fn end_full(
+        &mut self,
+        memory: &mut Memory,
+        height: usize,
+        open: usize,
+    ) -> Result<(), AllocError>
         requires { IsEnding self.old height «open» }
+        ensures kept { OnOk result (memory.new ≡ memory.old) }
+        ensures refused { OnErr result (IsTrue memory.new) }
         ensures same { self.new.starts ≡ self.old.starts }
         ensures ends { AnswersEnds self.old self.new height «open» result }
     {
         let mut left = height;
         'full: while left > open {
-            self.builder.end()?;
-            self.tree.end()?;
+            memory.noted(self.builder.end(), self.builder.memory())?;
+            memory.noted(self.tree.end(), self.tree.memory())?;
             self.end_keys();
             left -= 1;
         }
@@ -152,16 +165,23 @@ impl TreeItems {
 
     // Returns the offset of the key that has just ended if it is the same as an earlier key of its
     // map; otherwise adds it to them. This number of containers is open.
-    pub(crate) fn repeated(&mut self, alloc: Global, open: usize) -> Result<Option<u64>, AllocError>
+    pub(crate) fn repeated(
+        &mut self,
+        memory: &mut Memory,
+        alloc: Global,
+        open: usize,
+    ) -> Result<Option<u64>, AllocError>
         ensures same { (self.new.builder ≡ self.old.builder)
             × (self.new.starts ≡ self.old.starts) × (self.new.tree ≡ self.old.tree)
             × (self.new.kinds ≡ self.old.kinds) }
+        ensures kept { OnOk result (memory.new ≡ memory.old) }
+        ensures refused { OnErr result (IsTrue memory.new) }
         ensures answers { AnswersKey self.old self.new «open» result }
     {
         let Some(key) = self.builder.waiting_key() else {
             return Ok(None);
         };
-        if self.keys.add(alloc, key)? {
+        if self.keys.add(memory, alloc, key)? {
             return Ok(None);
         }
         Ok(Some(self.starts.get(open).copied().unwrap_or(0)))
@@ -186,22 +206,28 @@ impl TreeItems {
 
 // Gives the next part to the builder of canonical bytes. Returns the number of containers that it
 // opens, 0 or 1.
-fn give_to_builder(builder: &mut CanonBuilder, part: &ItemPart) -> Result<usize, AllocError>
+fn give_to_builder(
+    memory: &mut Memory,
+    builder: &mut CanonBuilder,
+    part: &ItemPart,
+) -> Result<usize, AllocError>
     requires { CanTake builder.old part.now }
-    ensures { IfOk result (λ opened. IsGiven builder.old part.now builder.new opened) }
+    ensures kept { OnOk result (memory.new ≡ memory.old) }
+    ensures refused { OnErr result (IsTrue memory.new) }
+    ensures given { IfOk result (λ opened. IsGiven builder.old part.now builder.new opened) }
 {
     match part {
         ItemPart::Leaf(major, argument) => {
-            builder.leaf(*major, *argument)?;
+            memory.noted(builder.leaf(*major, *argument), builder.memory())?;
             Ok(0)
         }
         ItemPart::String(is_text, content) => {
             let major = if *is_text { Major::Text } else { Major::Bytes };
-            builder.string(major, content)?;
+            memory.noted(builder.string(major, content), builder.memory())?;
             Ok(0)
         }
         ItemPart::Begin(major, number) => {
-            builder.begin(*major, *number)?;
+            memory.noted(builder.begin(*major, *number), builder.memory())?;
             Ok(1)
         }
         ItemPart::Break => Ok(0),

@@ -1,6 +1,6 @@
 //! The item at the start of an input, as a tree.
 
-ghost use Rattle.std.specs.Prelude.{◌≡◌, ◌≤◌, ◌<◌, IfOk, IfErr, OnOk, IfSome};
+ghost use Rattle.std.specs.Prelude.{◌≡◌, ◌≤◌, ◌<◌, IfOk, IfErr, IsTrue, OnOk, IfSome};
 ghost use Rattle.cbor_head.specs.Complaint.{plain};
 ghost use Rattle.cbor_item.specs.View.{view};
 ghost use Rattle.theory_verdicts.specs.Readers.{IsReadAs, IsUnread, Loses};
@@ -9,8 +9,9 @@ ghost use Rattle.cbor_tree_reader.specs.Size.{size};
 
 use crate::item_reader::read_item_prefix;
 use cbor_events::ItemEvents;
-use cbor_head::{Limits, Refusal};
+use cbor_head::{Limits, Reason, Refusal};
 use cbor_item::Tree;
+use cbor_memory::Memory;
 use std::alloc::Global;
 use std::io::Read;
 
@@ -38,20 +39,18 @@ pub fn read_tree<R: Read>(
     ensures read { IfErr result
         (λ f. Loses f.read (R.remaining reader.old) (R.remaining reader.new)) }
 {
-    read_tree_by(alloc, &mut ItemEvents::new(limits), reader, limits)
+    read_tree_in(&mut Memory::new(), alloc, reader, limits)
 }
 
-/// Reads a tree as [`read_tree`] does, with events that the caller reuses for each item.
-pub fn read_tree_by<R: Read>(
+/// Reads a tree as [`read_tree`] does, and records in `memory` whether a request for memory was refused. If none was, the
+/// refusal is not `Memory`.
+pub fn read_tree_in<R: Read>(
+    memory: &mut Memory,
     alloc: Global,
-    events: &mut ItemEvents,
     reader: &mut R,
     limits: Limits,
 ) -> Result<(Tree, u64), Refusal>
-    requires limits { (events.old.machine.depth ≡ limits.depth)
-        × (events.old.machine.bytes ≡ limits.bytes) }
-    ensures limits { OnOk result ((events.new.machine.depth ≡ limits.depth)
-        × (events.new.machine.bytes ≡ limits.bytes)) }
+    ensures memory { IfErr result (λ f. f.reason ≡ Reason.Memory → IsTrue memory.new) }
     ensures accepted { IfOk result (λ answer. IfSome (R.remaining reader.old)
         (λ input. IsReadAs limits plain input (view answer.0) answer.1)) }
     ensures taken { IfOk result
@@ -63,7 +62,34 @@ pub fn read_tree_by<R: Read>(
     ensures read { IfErr result
         (λ f. Loses f.read (R.remaining reader.old) (R.remaining reader.new)) }
 {
-    match read_item_prefix(alloc, events, reader, limits) {
+    read_tree_by(memory, alloc, &mut ItemEvents::new(limits), reader, limits)
+}
+
+/// Reads a tree as [`read_tree_in`] does, with events that the caller reuses for each item.
+pub fn read_tree_by<R: Read>(
+    memory: &mut Memory,
+    alloc: Global,
+    events: &mut ItemEvents,
+    reader: &mut R,
+    limits: Limits,
+) -> Result<(Tree, u64), Refusal>
+    requires limits { (events.old.machine.depth ≡ limits.depth)
+        × (events.old.machine.bytes ≡ limits.bytes) }
+    ensures limits { OnOk result ((events.new.machine.depth ≡ limits.depth)
+        × (events.new.machine.bytes ≡ limits.bytes)) }
+    ensures memory { IfErr result (λ f. f.reason ≡ Reason.Memory → IsTrue memory.new) }
+    ensures accepted { IfOk result (λ answer. IfSome (R.remaining reader.old)
+        (λ input. IsReadAs limits plain input (view answer.0) answer.1)) }
+    ensures taken { IfOk result
+        (λ answer. Loses answer.1 (R.remaining reader.old) (R.remaining reader.new)) }
+    ensures bounded { IfOk result (λ answer. size (view answer.0) ≤ answer.1) }
+    ensures refused { IfErr result (λ f. IfSome (R.remaining reader.old)
+        (λ input. IsUnread limits plain input f)) }
+    ensures reason { IfErr result (λ f. IsReaderReason limits plain f.reason) }
+    ensures read { IfErr result
+        (λ f. Loses f.read (R.remaining reader.old) (R.remaining reader.new)) }
+{
+    match read_item_prefix(memory, alloc, events, reader, limits) {
         Ok((item, count)) => Ok((Tree::from_valid(item), count)),
         Err(refusal) => Err(refusal),
     }

@@ -1,7 +1,7 @@
 -- An input that is checked as it is read.
-use Rattle.std.proofs.Common.{ℕ, ◌+◌, ◌≡◌, ◌≢◌, ◌<◌, ◌≤◌, ◌++◌, ◌⊎◌, inl, inr, true, false, Option, Some, None, Ok, Err, List, [], ◌∷◌, length, take, drop, refl, sym, ap, ◌∙◌, arith, subst, append_assoc, append-nil, length-append, length-take-le}
+use Rattle.std.proofs.Common.{ℕ, ◌+◌, ◌≡◌, ◌≢◌, ◌<◌, ◌≤◌, ◌++◌, ◌⊎◌, inl, inr, true, false, Option, Ok, Err, List, [], ◌∷◌, length, take, drop, refl, sym, ap, ◌∙◌, arith, subst, append_assoc, append-nil, length-append, length-take-le}
 use Rattle.std.proofs.{lemmas.List.take-append-drop, lemmas.List.length-drop, Math.Seq.drop-length}
-use Rattle.cbor_head.specs.Prelude.{Rules, Bounds, bounds, with_keys, strict, refusal, refused, IsVerdict}
+use Rattle.cbor_head.specs.Prelude.{Rules, Bounds, strict, refusal, refused, IsVerdict}
 use Rattle.cbor_head.specs.declared.reason.Reason.TheVariants as reasons
 use Rattle.cbor_head.specs.declared.{event.Event.Event, order.KeyOrder.KeyOrder, reason.Refusal.Refusal}
 use Rattle.theory_automaton.specs.Trace.{Mark}
@@ -11,12 +11,13 @@ use Rattle.theory_verdicts.specs.Readers as readers
 use Rattle.cbor_reader.specs.WholeItem.{IsItemRefusal, unread, trailing}
 use Rattle.cbor_stream.specs.StrictMachine.{StrictMachineView, StandsAmid, limits_of}
 use Rattle.cbor_stream.specs.Said.{Tells, Says, SaysMore, SaysDone, SaysRefused}
+use Rattle.cbor_stream.proofs.Checking.{limits_same}
 use Rattle.cborc_files.specs.Folder.{Files, KeepsFiles, IsThere}
 use Rattle.cborc_words.specs.declared.request.Options.{Options}
 use Rattle.cborc_commands.specs.inner.{Parts.PartsView, Parts.IsReadTo, Parts.IsNextPart, Sources.HasInput, Sources.HasNoInput, Sources.IsNoPart}
 use Rattle.cborc_commands.proofs.{Faults.refusal_is, Files.holds_there, ItemFaults.no_input, ReadParts.took, ReadParts.next_part, ReadParts.input_there, ReadParts.input_ended, ReadParts.no_input_there, ReadParts.no_next_part, ReadParts.weight, ReadParts.read_less, Sources.unread as not_read}
 use Rattle.cborc_commands.specs.{inner.WholeInput.IsWholeInput, Check.IsNoWholeInput, Input.IsInput, Fault.IsOfInput, Fault.refusal_fault}
-use Rattle.cborc_commands.specs.{declared.fault.Fault.Fault, inner.Start.StartsInput}
+use Rattle.cborc_commands.{specs.declared.fault.Fault.Fault, specs.inner.Start.StartsInput, proofs.Files.same_files}
 
 -- The bytes `taken` were consumed and checked, and nothing in them is refused; the machine is the one after them.
 pub record IsCheckedTo (held : Option Files) (path : List ℕ) (options : Options) (o : KeyOrder) (m : StrictMachineView) (p : PartsView) : Type 0 where
@@ -27,23 +28,15 @@ pub record IsCheckedTo (held : Option Files) (path : List ℕ) (options : Option
   pub limits_are : limits_of m ≡ options.limits
   pub order_is : m.order ≡ o
 
-pub keeps_same : (held : Option Files) → KeepsFiles held held
-keeps_same None = tt
-keeps_same (Some files) = λ path. refl
-
 longer : (xs : List ℕ) → xs ≢ [] → 0 < length xs
 longer [] some = absurd (some refl)
 longer (x ∷ xs) some = omega (arith)
-
-limits_same : (was now : StrictMachineView) → KeepsLimits was.machine now.machine → now.keys ≡ was.keys → limits_of now ≡ limits_of was
-limits_same was now limits keys =
-    ap (λ (d : ℕ). with_keys (bounds d now.machine.bytes) now.keys) limits.depth ∙ ap (λ (n : ℕ). with_keys (bounds was.machine.depth n) now.keys) limits.bytes ∙ ap (with_keys (bounds was.machine.depth was.machine.bytes)) keys
 
 -- an input that ended with the first part
 pub starts_ended : (held : Option Files) (path : List ℕ) (options : Options) (rules : Rules) (p : PartsView) → IsReadTo held path options.hex [] p → p.source.ended ≡ true → StartsInput rules held path options p.rest
 starts_ended held path options rules p r ended = record {
   input = p.rest;
-  is = input_ended held held path options.hex [] p (keeps_same held) r ended;
+  is = input_ended held held path options.hex [] p (same_files held) r ended;
   behind = [];
   splits = append-nil p.rest;
   enough = inl refl;
@@ -88,7 +81,7 @@ pub taken_to : (held : Option Files) (path : List ℕ) (options : Options) (o : 
 taken_to held path options o was m old p c used within rest start source limits order keys =
     let size : length (take used old.rest) ≡ used = length-take-le used old.rest within in
     record {
-      read = took held held path options.hex c.taken old p (keeps_same held) c.read (take used old.rest) (drop used old.rest) (take-append-drop used old.rest)
+      read = took held held path options.hex c.taken old p (same_files held) c.read (take used old.rest) (drop used old.rest) (take-append-drop used old.rest)
           (rest ∙ ap (λ (n : ℕ). drop n old.rest) (sym size)) (start ∙ ap (λ (n : ℕ). old.start + n) (sym size)) source;
       limits_are = limits_same was m limits keys ∙ c.limits_are;
       order_is = order ∙ c.order_is;

@@ -1,10 +1,14 @@
 -- What stays known about files from call to call.
-use Rattle.std.proofs.Common.{List, [], ℕ, ◌%◌, ◌≡◌, Bool, true, false, Option, Some, None, Result, Ok, Err, ◌∙◌, ap, arith, length, subst, sym, ◌==◌, if◌then◌else◌, IfSome, take_all}
+use Rattle.std.proofs.Common.{List, [], ℕ, ◌%◌, ◌≡◌, Bool, true, false, Option, Some, None, Result, Ok, Err, ◌∙◌, ap, refl, arith, length, subst, sym, ◌==◌, if◌then◌else◌, IfSome, take_all}
 use Rattle.std.specs.{List.filter, Io.KnownBytes.Appends}
 use Rattle.hex.specs.{Hex.decode_pairs, declared.error.FromHexError.FromHexError, declared.error.FromHexError.TheVariants.OddLength}
 use Rattle.cborc_files.specs.Folder.{Files, Holds, IsBlank, IsThere, KeepsFiles, ReplacesFile}
 use Rattle.cborc_files.specs.Hex.{is_kept}
 use Rattle.cborc_commands.specs.Input.{IsInput, IsPrefix, IsNotHex}
+
+pub same_files : (held : Option Files) → KeepsFiles held held
+same_files None = tt
+same_files (Some files) = λ path. refl
 
 pub keeps_keeps : (a b c : Option Files) → KeepsFiles a b → KeepsFiles b c → KeepsFiles a c
 keeps_keeps None b c h k = tt

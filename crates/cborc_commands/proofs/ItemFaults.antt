@@ -73,10 +73,6 @@ module _ (rules : Rules) (options : Options) (source : List ℕ) (held : Option 
   unreported size before after w faults.Memory h = input_is_there held source options.hex w.input w.is
   unreported size before after w _ h = absurd h
 
-  pub not_checked : (before after : Option (List ℕ)) (fault : Fault) → IsNoWholeInput rules options source held fault → IsNotChecked rules options source held before after fault
-  not_checked before after faults.CannotPrint h = absurd h
-  not_checked before after _ h = h
-
 module _ (rules : Rules) (options : Options) (source : List ℕ) (held : Option Files) (bytes : List ℕ)
     (s : StartsInput rules held source options bytes) where
   pub whole_input : (size : ℕ) → IsWhole options.limits rules bytes size → IsWholeInput rules options source held size

@@ -11,8 +11,8 @@ use Rattle.cborc_commands.specs.inner.Parts.{PartsView, IsReadTo, IsNextPart}
 use Rattle.cborc_commands.specs.inner.Sources.{IsNoPart, HasInput, HasNoInput}
 use Rattle.cborc_commands.proofs.ReadParts.{next_part, took, prefix_there, input_ended, input_there, no_input_there, no_next_part, weight}
 use Rattle.cborc_commands.{proofs.Lists.all_with, proofs.Lists.joined_with, proofs.Outputs.appends_more, proofs.Outputs.appends_none, specs.Fault.at_item}
-use Rattle.cborc_commands.specs.{Sequences.texts_from, declared.fault.Fault.Fault, NoInput.IsNoInput}
-use Rattle.cborc_commands.proofs.Sources.{same_files, unread}
+use Rattle.cborc_commands.{specs.Sequences.texts_from, specs.declared.fault.Fault.Fault, specs.NoInput.IsNoInput, proofs.Sources.unread}
+use Rattle.cborc_commands.proofs.Files.{same_files}
 
 -- ---- lists
 

@@ -12,11 +12,8 @@ use Rattle.cborc_commands.specs.Input.{IsInput, IsPrefix, IsNotHex}
 use Rattle.cborc_commands.specs.declared.fault.Fault.TheVariants as faults
 use Rattle.cborc_commands.specs.inner.Sources.{StartsFile, Gives, IsAll, HasGiven, IsFresh, Adds, IsPartAdded, IsUndecoded, IsHexErrorText, IsNoPart, StartsInputAt, HasInput, HasNoInput}
 use Rattle.cborc_commands.proofs.Files.{held_before, keeps_keeps, there_before}
+use Rattle.cborc_commands.proofs.Files.{same_files}
 use Rattle.cborc_commands.specs.{NoInput.IsNoInput, declared.fault.Fault.Fault, declared.source.Source.Source}
-
-pub same_files : (held : Option Files) → KeepsFiles held held
-same_files None = tt
-same_files (Some files) = λ path. refl
 
 -- what a later state of a file holds, the earlier state held
 same_file : (files : Files) (now : Option Files) (path xs ys : List ℕ) → KeepsFiles (Some files) now → files path ≡ Some xs → Holds now path ys → ys ≡ xs

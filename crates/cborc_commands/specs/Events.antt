@@ -16,7 +16,8 @@ pub record IsFollowed (style : EventStyle) (limits : Bounds) (input : List ℕ) 
   pub is : f ≡ refusal Trailing size size
 
 -- The form of a whole input is refused, or a byte follows the item, or standard output failed. Out of memory is reported only
--- if a read of the bytes failed. They are a slice, so no read fails; but the calls that list events do not say so.
+-- if a read of the bytes failed. They are a slice, so no read fails: the call that annotates bytes says so, and the one that lists
+-- events, which reads from any reader, does not.
 abbrev pub IsNotListed : EventStyle → Bounds → List ℕ → Option (List ℕ) → Option (List ℕ) → Fault → Type 0
 IsNotListed style limits input old new (faults.Refused f) =
     IsOfInput f.reason × (f.reason ≢ Write) × ((AreUnlisted style 0 limits input f old new × (f.read ≤ length input)) ⊎ IsFollowed style limits input old new f)

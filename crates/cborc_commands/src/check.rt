@@ -17,7 +17,7 @@ use crate::check_parts::strict_size;
 use crate::fault::Fault;
 use crate::first_item::Scratch;
 use crate::input::{Judge, read_item};
-use cbor_head::{Limits, Reason, Refusal};
+use cbor_head::{Limits, Refusal};
 use cbor_item::write_whole;
 use cborc_files::Folder;
 use cborc_words::{Accepted, Options};
@@ -124,6 +124,6 @@ pub(crate) fn all_of(size: u64, is_all: bool) -> Result<u64, Refusal>
     if is_all {
         Ok(size)
     } else {
-        Err(Refusal::at(Reason::Trailing, size))
+        Err(Refusal::trailing(size))
     }
 }

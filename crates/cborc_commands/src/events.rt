@@ -8,7 +8,7 @@ ghost use Rattle.cborc_files.specs.Folder.{KeepsFiles};
 use crate::fault::Fault;
 use crate::input::{Judge, read_item};
 use crate::listing::list_prefix;
-use cbor_head::{Limits, Reason, Refusal};
+use cbor_head::{Limits, Refusal};
 use cborc_files::Folder;
 use cborc_words::{EventStyle, Options};
 use std::alloc::Global;
@@ -53,6 +53,6 @@ fn list<'a, W: Write>(
     if size == bytes.len() as u64 {
         Ok(())
     } else {
-        Err(Fault::Refused(Refusal::at(Reason::Trailing, size)))
+        Err(Fault::Refused(Refusal::trailing(size)))
     }
 }

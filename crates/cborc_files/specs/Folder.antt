@@ -22,6 +22,11 @@ abbrev pub IsThere : Option Files → List ℕ → Type 0
 IsThere None path = Unit {0}
 IsThere (Some files) path = files path ≢ None
 
+-- no file exists at this path, if the folder says what it holds
+abbrev pub IsMissing : Option Files → List ℕ → Type 0
+IsMissing None path = Unit {0}
+IsMissing (Some files) path = files path ≡ None
+
 -- The bytes of the file at this path after its first `from` bytes were added to the old ones: all of them, or the number
 -- requested.
 pub record ReadsOn (held : Option Files) (path : List ℕ) (from most : ℕ) (old new : List ℕ) : Type 0 where

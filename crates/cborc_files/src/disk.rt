@@ -68,12 +68,6 @@ impl<'a, R: Files + Input + RandomSource + AllocGlobal> Disk<'a, R> {
 impl<'a, R: Files + Input + RandomSource + AllocGlobal> Folder for Disk<'a, R> {
     type Draft = BufWriter<Replacement<'a, R>>;
 
-    fn read(&mut self, alloc: Global, path: &str) -> Result<Vec<u8>, FileFault> {
-        let mut bytes = Vec::new(alloc);
-        self.read_on(alloc, path, 0, u64::MAX, &mut bytes)?;
-        Ok(bytes)
-    }
-
     // The offset only says whether to open the file: an open file continues after its last read.
     fn read_on(
         &mut self,

@@ -59,16 +59,6 @@ impl Folder for FilesInMemory {
 
     ghost held = { λ files. Some (files_of files) };
 
-    fn read(&mut self, alloc: Global, path: &str) -> Result<Vec<u8>, FileFault> {
-        match self.get(path) {
-            Some(bytes) => match Vec::from_slice(alloc, bytes) {
-                Ok(bytes) => Ok(bytes),
-                Err(_) => Err(FileFault::Memory),
-            },
-            None => Err(FileFault::Failed),
-        }
-    }
-
     fn read_on(
         &mut self,
         _alloc: Global,

@@ -3,8 +3,8 @@
 ghost use Rattle.std.specs.Prelude.{◌≡◌, ◌++◌, take, drop, Option, None, OnOk, OnErr, IfOk, IfErr, IfSome, false};
 ghost use Rattle.std.specs.Borrow.{GName};
 ghost use Rattle.std.specs.IoError.{error_kind, raw_os_error};
-ghost use Rattle.cborc_files.specs.Folder.{Files, is_stream, Holds, ReadsOn, IsWithin, KeepsFiles};
-ghost use Rattle.cborc_files.specs.Folder.{IsBlank, IsThere, ReplacesFile, WritesFile};
+ghost use Rattle.cborc_files.specs.Folder.{Files, is_stream, ReadsOn, IsWithin, KeepsFiles};
+ghost use Rattle.cborc_files.specs.Folder.{IsBlank, IsThere, IsMissing, ReplacesFile, WritesFile};
 
 use crate::hex_text::DigitsFault;
 use std::alloc::{AllocError, Global};
@@ -54,14 +54,6 @@ pub trait Folder {
     // The reference to the folder that this one forwards to, if it does.
     ghost behind: { Self → Option GName } = { λ _. None };
 
-    /// Reads a file whole. Memory is refused only for a file that exists.
-    fn read(&mut self, alloc: Global, path: &str) -> Result<Vec<u8>, FileFault>
-        ensures gives { IfOk result (λ v. Holds (held self.old) path.now v.items) }
-        ensures memory { IfErr result
-            (λ fault. fault ≡ FileFault.Memory → IsThere (held self.old) path.now) }
-        ensures keeps { KeepsFiles (held self.old) (held self.new) }
-        ensures same { behind self.new ≡ behind self.old };
-
     /// Begins a file that is to replace the one at this path. If it cannot be created, its first
     /// write or `replace` reports that. The only error here is out of memory.
     fn begin(&mut self, path: &str) -> Result<Self::Draft, AllocError>
@@ -100,7 +92,8 @@ pub trait Folder {
 
     /// Appends `most` bytes of a file after its first `from`: fewer only if the file ends. Each call
     /// continues where the last call for the file ended. A folder that can read a file in parts reads
-    /// no more than requested, and nothing twice. Memory is refused only for a file that exists.
+    /// no more than requested, and nothing twice. Memory is refused only for a file that exists. A folder
+    /// that says what it holds fails only for a file that is missing.
     fn read_on(
         &mut self,
         alloc: Global,
@@ -114,12 +107,10 @@ pub trait Folder {
         ensures within { OnOk result (IsWithin from bytes.old.items bytes.new.items) }
         ensures memory { IfErr result
             (λ fault. fault ≡ FileFault.Memory → IsThere (held self.old) path.now) }
+        ensures missing { IfErr result
+            (λ fault. fault ≡ FileFault.Failed → IsMissing (held self.old) path.now) }
         ensures keeps { KeepsFiles (held self.old) (held self.new) }
-        ensures same { behind self.new ≡ behind self.old }
-    {
-        let whole = self.read(alloc, path)?;
-        append_part(whole.as_slice(), from, most, bytes)
-    }
+        ensures same { behind self.new ≡ behind self.old };
 
     /// Receives the bytes that a result is about, which were read from the file that was opened
     /// last. A folder may store them for an explanation.
@@ -140,13 +131,9 @@ pub trait Folder {
     }
 }
 
-// Appends `most` bytes of a file after its first `from`: fewer only if the file ends.
-pub(crate) fn append_part(
-    whole: &[u8],
-    from: u64,
-    most: u64,
-    bytes: &mut Vec<u8>,
-) -> Result<(), FileFault>
+/// Appends `most` bytes of a file after its first `from`: fewer only if the file ends. With this
+/// function, a folder that has a file whole implements `read_on`. The only error is out of memory.
+pub fn append_part(whole: &[u8], from: u64, most: u64, bytes: &mut Vec<u8>) -> Result<(), FileFault>
     ensures part { OnOk result (bytes.new.items ≡ bytes.old.items ++ take most (drop from whole.now)) }
     ensures within { OnOk result (IsWithin from bytes.old.items bytes.new.items) }
     ensures fault { IfErr result (λ fault. fault ≡ FileFault.Memory) }

@@ -14,7 +14,7 @@ mod visible;
 
 pub use disk::{Disk, LONGEST, append_from};
 pub use files_in_memory::FilesInMemory;
-pub use folder::{Cause, FileFault, Folder, is_stream};
+pub use folder::{Cause, FileFault, Folder, append_part, is_stream};
 pub use hex_text::{Digits, DigitsFault, HexError};
 pub use recording::{Recording, RecordingFolder};
 pub use visible::Visible;

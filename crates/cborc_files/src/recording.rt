@@ -76,10 +76,6 @@ impl<'a, F: Folder> Folder for RecordingFolder<'a, F> {
 
     ghost behind = { λ memory. Some memory.files.ghost_name };
 
-    fn read(&mut self, alloc: Global, path: &str) -> Result<Vec<u8>, FileFault> {
-        self.files.read(alloc, path)
-    }
-
     fn read_on(
         &mut self,
         alloc: Global,

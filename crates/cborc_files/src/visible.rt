@@ -2,8 +2,9 @@
 
 ghost use Rattle.std.specs.Prelude.{◌≡◌, Some};
 ghost use Rattle.std.specs.Fmt.{DisplaysOnOk};
-ghost use Rattle.cborc_files.specs.Visible.{is_hidden, visible_character, visible_text};
+ghost use Rattle.cborc_files.specs.Visible.{visible_character, visible_text};
 
+use cbor_text::is_hidden;
 use std::fmt;
 
 /// A path as messages show it: a character that would move the cursor, end the line or change the
@@ -44,20 +45,4 @@ impl fmt::Display for VisibleCharacter {
             write!(f, "{character}")
         }
     }
-}
-
-// Whether a terminal would act on this code point instead of showing it: a control character (C0, DELETE,
-// C1), a line or paragraph separator, or a mark of the direction of text.
-fn is_hidden(code: u32) -> bool
-    ensures { result ≡ is_hidden code }
-{
-    matches!(
-        code,
-        0..=0x1f
-            | 0x7f..=0x9f
-            | 0x061c
-            | 0x200e..=0x200f
-            | 0x2028..=0x202e
-            | 0x2066..=0x2069
-    )
 }

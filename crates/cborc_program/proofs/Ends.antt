@@ -1,5 +1,5 @@
 -- What a run leaves if its arguments request nothing.
-use Rattle.std.proofs.Common.{◌≡◌, ◌≢◌, ◌⊎◌, ◌∙◌, ℕ, List, Option, None, Some, Result, Err, inl, inr, ap, refl}
+use Rattle.std.proofs.Common.{◌≡◌, ◌≢◌, ◌⊎◌, ◌∙◌, ℕ, List, Option, None, Some, Result, Err, inl, inr, ap}
 use Rattle.std.specs.Io.KnownBytes.{Keeps}
 use Rattle.clap.specs.{Words.Text, declared.error.kind.ErrorKind.ErrorKind, declared.error.kind.ErrorKind.TheVariants.OutOfMemory}
 use Rattle.cborc_files.specs.Folder.{Files, KeepsFiles}
@@ -14,10 +14,6 @@ keeps_on None b c h k = tt
 keeps_on (Some xs) None c h k = absurd h
 keeps_on (Some xs) (Some ys) None h k = absurd k
 keeps_on (Some xs) (Some ys) (Some zs) h k = k ∙ h
-
-pub keeps_files : (files : Option Files) → KeepsFiles files files
-keeps_files None = tt
-keeps_files (Some files) = λ path. refl
 
 abbrev number : Result Status Fault → ℕ
 number ended = status_number (end_status ended)

@@ -1,7 +1,7 @@
 -- `check` of several files, one after another.
-use Rattle.std.proofs.Common.{◌≡◌, ◌≢◌, ◌≤◌, ◌<◌, ◌+◌, suc, ap, take, length, ◌++◌, ◌∷◌, ◌∙◌, ℕ, Bool, true, false, List, [], Option, None, Some, arith, inl, inr, max, refl}
+use Rattle.std.proofs.Common.{◌≡◌, ◌≢◌, ◌≤◌, ◌<◌, ◌+◌, suc, ap, take, length, ◌++◌, ◌∷◌, ◌∙◌, ℕ, Bool, true, false, List, [], Option, arith, inl, inr, max, refl}
 use Rattle.std.{proofs.Math.ListN.get_or, proofs.Math.Seq.take-suc, proofs.lemmas.Bool.Decides.Decides-eqb, specs.Prelude.◌==◌, specs.Prelude.if◌then◌else◌}
-use Rattle.std.specs.{Borrow.Bor, Io.KnownBytes.Appends, Io.KnownBytes.Keeps}
+use Rattle.std.specs.Borrow.{Bor}
 use Rattle.cborc_files.specs.Folder.{Files, KeepsFiles}
 use Rattle.cborc_words.specs.declared.request.Verbosity.TheVariants as verbosities
 use Rattle.cborc_words.specs.declared.request.{Accepted.Accepted, Action.TheVariants.Check, Options.Options, Request.Request, Verbosity.Verbosity}
@@ -9,13 +9,6 @@ use Rattle.cborc_commands.specs.declared.status.Status.{Status, TheVariants.Acce
 use Rattle.cborc_commands.specs.Outcome.{IsAnswered, IsReportedBy, IsStatus, done, stopped}
 use Rattle.cborc_commands.specs.Answer.{IsActionDone}
 use Rattle.cborc_program.specs.SeveralFiles.{label, line_of, request_for, AreAllChecked, IsNamed}
-
--- what was appended stays after a flush
-pub appends_kept : (a b c : Option (List ℕ)) (text : List ℕ) → Appends a b text → Keeps b c → Appends a c text
-appends_kept None b c text h k = tt
-appends_kept (Some xs) None c text h k = absurd h
-appends_kept (Some xs) (Some ys) None text h k = absurd k
-appends_kept (Some xs) (Some ys) (Some zs) text h k = k ∙ h
 
 -- `check` changes no file
 kept_done : (accepted : Accepted) (sequence : Bool) (options : Options) (source : List ℕ) (old new : Option Files) (before after : Option (List ℕ)) (s : Status)

@@ -14,7 +14,7 @@ mod rows;
 mod several_files;
 mod streams;
 
-use cborc_files::{Cause, FileFault, Folder};
+use cborc_files::{Cause, FileFault, Folder, append_part};
 use cborc_program::run;
 use std::alloc::{AllocError, Global};
 use std::io::{self, ErrorKind, Write};
@@ -57,10 +57,17 @@ impl Write for LimitedFile {
 impl<'a> Folder for Shelf<'a> {
     type Draft = LimitedFile;
 
-    fn read(&mut self, alloc: Global, path: &str) -> Result<Vec<u8>, FileFault> {
+    fn read_on(
+        &mut self,
+        _alloc: Global,
+        path: &str,
+        from: u64,
+        most: u64,
+        bytes: &mut Vec<u8>,
+    ) -> Result<(), FileFault> {
         match path {
-            "in" | "a" | "-" => Vec::from_slice(alloc, self.first).map_err(|_| FileFault::Memory),
-            "b" => Vec::from_slice(alloc, self.second).map_err(|_| FileFault::Memory),
+            "in" | "a" | "-" => append_part(self.first, from, most, bytes),
+            "b" => append_part(self.second, from, most, bytes),
             "full" => Err(FileFault::Memory),
             _ => Err(self.fail(path)),
         }

@@ -4,6 +4,7 @@
 //! contracts say which task they request, and which usage errors refuse them.
 #![tactic(auto)]
 
+mod arguments;
 mod byte_counts;
 mod cli;
 mod command_line;

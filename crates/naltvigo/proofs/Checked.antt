@@ -1,14 +1,14 @@
 -- What a machine says of a part, as it is reported.
 use Rattle.std.proofs.Common.{◌≡◌, ℕ, ◌+◌, ◌≤◌, ◌⊎◌, ◌≢◌, zero, suc, ◌++◌, Option, Some, None, List, [], length, take, refl, sym, ap, ◌∙◌, subst, inl, inr, arith, length-take-le}
 use Rattle.std.specs.Option.{IfSome}
-use Rattle.cbor_head.specs.Prelude.{bounds, with_keys, refusal}
-use Rattle.cbor_head.specs.declared.reason.{Reason.TheVariants.Memory, Reason.TheVariants.Truncated, Refusal.Refusal}
+use Rattle.cbor_head.specs.{Prelude.refusal, declared.reason.Reason.TheVariants.Memory, declared.reason.Reason.TheVariants.Truncated}
+use Rattle.cbor_head.specs.declared.reason.Refusal.{Refusal}
 use Rattle.theory_automaton.specs.Trace.{Mark}
 use Rattle.cbor_machine.specs.declared.step.Out.TheVariants as outs
 use Rattle.cbor_machine.specs.Machine.{IfRefused, IsComplete, KeepsLimits}
 use Rattle.cbor_machine.specs.declared.step.Out.{Out}
-use Rattle.cbor_stream.specs.StrictMachine.{StrictMachineView, StandsAmid, limits_of}
-use Rattle.cbor_stream.{specs.Said.Says, specs.Reasons.IsStrictReason, proofs.Steps.if_refused}
+use Rattle.cbor_stream.specs.{StrictMachine.StrictMachineView, StrictMachine.StandsAmid, Said.Says, Reasons.IsStrictReason}
+use Rattle.cbor_stream.proofs.{Steps.if_refused, Checking.limits_same}
 use Rattle.cbor_checker.specs.declared.checker.Checker.{Checker}
 use Rattle.naltvigo.specs.Checker.{HasChecked, IsReportedPart, IsReportedAtEnd, IsReportedRefusal}
 use Rattle.naltvigo.specs.{Reported.IsReported, declared.status.NaltvigoRefusal.NaltvigoRefusal}
@@ -16,10 +16,6 @@ use Rattle.naltvigo.specs.{Reported.IsReported, declared.status.NaltvigoRefusal.
 map_some : (o : Option Refusal) (P Q : Refusal → Type 0) → ((f : Refusal) → P f → Q f) → IfSome o P → IfSome o Q
 map_some None P Q h p = tt
 map_some (Some f) P Q h p = h f p
-
-pub limits_same : (was now : StrictMachineView) → KeepsLimits was.machine now.machine → now.keys ≡ was.keys → limits_of now ≡ limits_of was
-limits_same was now limits keys =
-    ap (λ (d : ℕ). with_keys (bounds d now.machine.bytes) now.keys) limits.depth ∙ ap (λ (n : ℕ). with_keys (bounds was.machine.depth n) now.keys) limits.bytes ∙ ap (with_keys (bounds was.machine.depth was.machine.bytes)) keys
 
 module _ (was now : StrictMachineView) (input : List ℕ) (used : ℕ) (out : Out) (within : used ≤ length input) (taken : now.machine.taken ≡ was.machine.taken + used)
     (says : (t : List ℕ) (ms : List Mark) → StandsAmid was t ms → Says out now (t ++ take used input)) (limits : KeepsLimits was.machine now.machine) (order : now.order ≡ was.order) (keys : now.keys ≡ was.keys)

@@ -15,7 +15,7 @@ use crate::settings::{limits_of, order_numbered};
 use crate::status::{
     BAD_LIMITS, BAD_ORDER, NO_MEMORY, NaltvigoRefusal, OK, REFUSED, report, reported,
 };
-use cbor_head::{KeyOrder, Limits, Reason, Refusal};
+use cbor_head::{KeyOrder, Limits, Refusal};
 use cbor_reader::laws::{items_and_their_refusals, own_answers_are_strictly_accepted, valid_items};
 use cbor_reader::{check_canonical, check_valid};
 use std::alloc::Global;
@@ -103,7 +103,7 @@ pub(crate) fn check_own_bytes(input: &[u8], limits: Limits, order: KeyOrder) -> 
 {
     own_answers_are_strictly_accepted();
     match check_canonical(input, limits, order) {
-        Ok(count) if count < input.len() as u64 => Err(Refusal::at(Reason::Trailing, count)),
+        Ok(count) if count < input.len() as u64 => Err(Refusal::trailing(count)),
         Ok(_) => Ok(()),
         Err(refusal) => Err(refusal),
     }
@@ -120,7 +120,7 @@ pub(crate) fn check_whole_item(alloc: Global, input: &[u8], limits: Limits) -> R
     valid_items();
     items_and_their_refusals();
     match check_valid(alloc, input, limits) {
-        Ok(size) if size < input.len() as u64 => Err(Refusal::at(Reason::Trailing, size)),
+        Ok(size) if size < input.len() as u64 => Err(Refusal::trailing(size)),
         Ok(_) => Ok(()),
         Err(refusal) => Err(refusal),
     }

@@ -160,3 +160,11 @@ reported d s p rest q ms i e =
     let whole = cut d p start rest q done ms (trace s) tt e (item-done d s (p ++ rest) i) in
     let here : length p + 0 ≡ length p = omega arith in
     sym whole ∙ ap (λ x. within x (trace s)) here
+
+-- a break reports something, or is refused
+pub no-silent-break : (d : ℕ) (q u : State) → IsClear q → run d q (0xff ∷ []) ≡ reached u [] → ⊥
+no-silent-break d (at_item (indefinite_map true ∷ fs)) u c e = cc e
+no-silent-break d (in_head chunk m w k acc fs) u c e = c
+no-silent-break d (in_simple fs) u c e = c
+no-silent-break d (in_payload chunk m zero fs) u c e = cc e
+no-silent-break d _ u c e = cc e

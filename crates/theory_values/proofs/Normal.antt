@@ -149,7 +149,7 @@ spelled_entries o value.no_entries a h = tt
 spelled_entries o (value.entry k v es) a h = put_entry-all IsSpelled o (normal o k) (normal o v) (normal_entries o es) (a.0 h.0) (a.1 h.1) (spelled_entries o es a.2 h.2)
 
 -- the count in a shortest head is the spelling's
-count_held : (n m : ℕ) → m ≡ n → n < 2 ^ 64 → HoldsOrIndefinite (shortest n) m
+pub count_held : (n m : ℕ) → m ≡ n → n < 2 ^ 64 → HoldsOrIndefinite (shortest n) m
 count_held n m e h = subst (HoldsOrIndefinite (shortest n)) (sym e) (holds_or_open (shortest n) n (Holds-shortest n h))
 
 pub IsSpelled-normal : (o : KeyOrder) (v : Value) → IsInRange v → IsSpelled (normal o v)

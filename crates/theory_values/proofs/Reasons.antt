@@ -74,8 +74,5 @@ module _ (r : Rules) (Q : Complaint → Type 0) (of_texts : IsTrue r.texts → (
 pub ranked : (r : Rules) (at : ℕ) (s : Spelling) (c : Complaint) → Complains r at s c → 1 ≤ rank c.reason
 ranked r at s c h = each_complaint r (λ x. 1 ≤ rank x.reason) (λ t at q. omega arith) (λ t at n. omega arith) (λ t at. omega arith) (λ t at n. omega arith) (λ o t at n. omega arith) at s c h
 
-pub string_ranked : (r : Rules) (at : ℕ) (m : Major) (w : Width) (q : List ℕ) (c : Complaint) → OfString r at m w q c → 1 ≤ rank c.reason
-string_ranked r at m w q c h = of_string r (λ x. 1 ≤ rank x.reason) (λ t at q. omega arith) (λ t at n. omega arith) (λ t at. omega arith) (λ t at n. omega arith) (λ o t at n. omega arith) at m w q c h
-
 pub payload_rank : (r : Rules) (at : ℕ) (q : List ℕ) (c : Complaint) → OfPayload r at q c → rank c.reason ≡ 1
 payload_rank r at q c h = ap (λ (x : Complaint). rank x.reason) h.2

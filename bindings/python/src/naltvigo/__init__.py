@@ -8,8 +8,8 @@ Values become canonical bytes, and checked bytes become values:
 >>> naltvigo.loads(bytes.fromhex("a263416d74216346756ef5"), canonical=True)
 {'Amt': -2, 'Fun': True}
 
-Bytes from elsewhere are checked, compared and canonicalised. Each accepted input has one canonical encoding, and each
-refusal a name and an offset:
+You can also check, compare and canonicalise bytes from other encoders. Each accepted input has one canonical encoding. Each
+refusal has a name and an offset:
 
 >>> streamed = bytes.fromhex("bf6346756ef563416d7421ff")       # {"Fun": true, "Amt": -2}, of indefinite length
 >>> naltvigo.canonicalise(streamed).hex()
@@ -21,12 +21,12 @@ Traceback (most recent call last):
   ...
 naltvigo.Refused: refused 5 Float at 1 ($[0]): ...
 
-A call that reads bytes accepts any buffer (bytes, bytearray, memoryview, array, mmap and others). Each call has limits,
-given by name: `depth`, how deeply arrays, maps and tags may nest (0 to 1024), and `max_bytes`, how many bytes an item and
-its canonical bytes may have (0 to 2 ** 62). All calls but `events` have `keys`, the items that may be keys of maps: 'any',
-or 'basic', only integers and texts. A limit, order or kind of keys out of range is a ValueError, a limit that is not an
-integer a TypeError, and no memory a MemoryError. Calls may be made from any number of threads; the interpreter's lock is
-not held while the library reads an input of 16 KiB or more. Memory that may change is copied first.
+A call that reads bytes accepts any buffer (bytes, bytearray, memoryview, array, mmap and others). Each call has limits as
+keyword arguments: `depth`, how deeply arrays, maps and tags may nest (0 to 1024), and `max_bytes`, how many bytes an item
+and its canonical bytes may have (0 to 2 ** 62). All calls except `events` have `keys`, the items that may be keys of maps:
+'any', or 'basic', only integers and texts. A call raises ValueError if a limit, order or kind of keys is out of range,
+TypeError if a limit is not an integer, and MemoryError if memory runs out. Any number of threads may make calls. The
+interpreter's lock is released while the library reads an input of 16 KiB or more. Memory that may change is copied first.
 """
 
 import sys

@@ -43,7 +43,7 @@ def load(
     tag_hook: Callable[[Tag], Any] | None = None,
     map_hook: Callable[[dict[Any, Any]], Any] | None = None,
 ) -> Any:
-    """The value of the one item that a file has, up to the end of the file: `loads` of what is read from it.
+    """The value of a file that is one item: `loads` of its bytes, from the position of the file to its end.
 
     At most one byte more than `max_bytes` is read.
 
@@ -102,9 +102,9 @@ def items(
     max_bytes: int = 1 << 20,
     keys: Keys = "any",
 ) -> Iterator[bytes] | Iterator[tuple[int, int]]:
-    """An iterator over the items of a sequence (RFC 8742), each as a bytes object, in the encoding that it has.
+    """An iterator over the items of a sequence (RFC 8742), each as a bytes object with the bytes of the item.
 
-    With `canonical` each item must be in its canonical bytes. With `offsets` the iterator gives the offsets at which an
+    With `canonical` each item must be in its canonical bytes. With `offsets` the iterator yields the offsets at which an
     item begins and ends. The limits are for each item. If an item is refused, Refused is raised after the items before
     it: its `item` is the number of the item, counted from 1, `start` the offset at which the item begins, and `offset`
     counts from there.
@@ -139,8 +139,8 @@ def canonicalise_items(
 ) -> tuple[bytes, array[int]] | Iterator[tuple[bytes, array[int]]]:
     """The canonical bytes of all items of a sequence, joined in one bytes object, and the offset at which each ends.
 
-    Of a file or an iterable of buffers: an iterator over such pairs, each for some items more. Buffers, files, limits and
-    Refused are as with `items`.
+    For a file or an iterable of buffers, it returns an iterator over such pairs, each for some of the items. Buffers, files,
+    limits and Refused are as with `items`.
 
     >>> canonicalise_items(b"\\x18\\x00\\x61a\\x9f\\xff")
     (b'\\x00aa\\x80', array('Q', [1, 3, 4]))

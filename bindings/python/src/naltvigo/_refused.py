@@ -10,7 +10,7 @@ class Refused(ValueError):
     offset            of the byte at which the item is wrong, from the first byte of the item
     consumed          the number of its bytes that were read
     sentence, advice  what is wrong, and what to do about it
-    path              the way to the offset: `$` is the item, `[2]` a member of an array, counted from 0, `."a"` the value
+    path              the path to the offset: `$` is the item, `[2]` a member of an array, counted from 0, `."a"` the value
                       of a key, `(24)` the content of a tag, and `, key 2 of the map at 9` a key
     side              of `same`: 'left' or 'right', the input that is refused; else None
     item, start       of calls on sequences: the number of the item, counted from 1, and its offset; else None
@@ -55,9 +55,9 @@ class Refused(ValueError):
 
 
 def path_of(error: BaseException) -> str | None:
-    """The way to what is wrong in a value or an item, if a call raised this exception and knows it; else None.
+    """The path to the faulty part of a value or an item, or None if the exception has no path.
 
-    It is described at Refused. `dumps` gives it to every exception that it raises, `loads` too.
+    The form of a path is described at Refused. Every exception that `dumps` or `loads` raises has one.
 
     >>> from naltvigo import Tag, dumps
     >>> try:

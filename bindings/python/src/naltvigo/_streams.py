@@ -24,7 +24,7 @@ class Event(NamedTuple):
     offset    of its first byte, from the first byte of the item
     kind      'unsigned', 'negative', 'bytes', 'text', 'array', 'map', 'tag', 'simple': the head of an item;
               'chunk': the head of a chunk of a string of indefinite length; 'piece': some bytes of a payload;
-              'break': the end of what has indefinite length
+              'break': the end of an item of indefinite length
     number    the argument (a negative number is -1 minus the argument), the tag or simple value, or the number of
               bytes, members or pairs; None for an indefinite length, and for a break
     width     the number of bytes of the argument: 0, 1, 2, 4 or 8; None as above
@@ -39,10 +39,10 @@ class Event(NamedTuple):
 
 
 def events(chunks: ReadableBuffer | Iterable[ReadableBuffer], *, depth: int = 64, max_bytes: int = 1 << 20) -> Iterator[Event]:
-    """The events of the one item whose bytes come in these chunks, each as soon as its bytes have come.
+    """The events of the one item whose bytes arrive in these chunks, each as soon as its bytes have arrived.
 
-    Only well-formedness is checked: neither UTF-8 nor repeated keys. Refused is raised after the events before what is
-    wrong, also for a byte after the item, and for an item that the chunks do not end. A buffer is one chunk.
+    It checks only that the item is well-formed, and not UTF-8 or repeated keys. It raises Refused after the events before the
+    fault. It also refuses a byte after the item, and an item that is not complete after the last chunk. A buffer is one chunk.
 
     >>> for event in events([b"\\x82\\x18", b"\\x64\\x43a", b"bc"]):      # [100, h'616263']
     ...     print(*event)
@@ -84,12 +84,12 @@ def _and_nothing(chunks: Iterable[ReadableBuffer]) -> Iterator[ReadableBuffer]:
 def check_stream(
     source: Source, *, order: Order = "bytewise", depth: int = 64, max_bytes: int = 1 << 20, keys: Keys = "any"
 ) -> int:
-    """Returns the number of bytes that a source has, if they are one valid item in its canonical bytes. Raises Refused otherwise.
+    """Returns the number of bytes in a source, if they are one valid item in its canonical bytes. Raises Refused otherwise.
 
-    `source` is a file that was opened to read bytes, or an iterable of buffers, cut anywhere. A refusal has the reason and the
-    offset that `check_canonical` reports of all bytes, and no path. It comes at the first wrong byte, and no more is read then.
-    At most one byte more than `max_bytes` is read from a file. At most 64 KiB of it are in memory, or one buffer of an
-    iterable, and the keys that a Checker stores. If `source` is one buffer, it is checked by `check_canonical`.
+    `source` is a file that was opened to read bytes, or an iterable of buffers that have parts of any length. A refusal has the
+    reason and the offset that `check_canonical` reports for all bytes, and no path. It is raised at the first wrong byte, and
+    nothing more is read. At most `max_bytes` + 1 bytes are read from a file. In memory are at most 64 KiB of a file or one
+    buffer of an iterable, and the keys that a Checker stores. If `source` is one buffer, `check_canonical` checks it.
 
     >>> import io
     >>> check_stream(io.BytesIO(b"\\x82\\x18\\x64\\x01"))      # [100, 1]

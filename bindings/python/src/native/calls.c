@@ -2,7 +2,7 @@
 #include "native.h"
 
 /* Results of at most this number of bytes are made on the stack first. */
-#define SMALL_ANSWER 1024
+#define SMALL_RESULT 1024
 
 static uint32_t canonicalise_into(const uint8_t *bytes, size_t length, const struct options *options, uint8_t *out,
                                   size_t space, size_t *needed, struct naltvigo_refusal *refusal) {
@@ -20,13 +20,13 @@ static PyObject *canonicalise_long(const struct state *state, const uint8_t *byt
     size_t needed;
     uint32_t status;
     do {
-        PyObject *answer = PyBytes_FromStringAndSize(NULL, (Py_ssize_t)space);
-        if (!answer) return NULL;
-        uint8_t *out = (uint8_t *)PyBytes_AsString(answer);
+        PyObject *result = PyBytes_FromStringAndSize(NULL, (Py_ssize_t)space);
+        if (!result) return NULL;
+        uint8_t *out = (uint8_t *)PyBytes_AsString(result);
         status = canonicalise_into(bytes, length, options, out, space, &needed, &refusal);
-        if (status == NALTVIGO_OK && needed == space) return answer;
+        if (status == NALTVIGO_OK && needed == space) return result;
         PyObject *part = status == NALTVIGO_OK ? PyBytes_FromStringAndSize((char *)out, (Py_ssize_t)needed) : NULL;
-        Py_DECREF(answer);
+        Py_DECREF(result);
         if (status == NALTVIGO_OK) return part;
         space = needed;
     } while (status == NALTVIGO_TOO_SMALL);
@@ -36,7 +36,7 @@ static PyObject *canonicalise_long(const struct state *state, const uint8_t *byt
 
 PyObject *canonical_bytes(const struct state *state, const uint8_t *bytes, size_t length, const struct options *options,
                           size_t space) {
-    uint8_t small[SMALL_ANSWER];
+    uint8_t small[SMALL_RESULT];
     struct naltvigo_refusal refusal;
     size_t needed;
     if (space > sizeof small) return canonicalise_long(state, bytes, length, options, space);
@@ -53,18 +53,18 @@ FUNCTION(canonicalise) {
     if (open_call(&call, &signature, ITEM, module, arguments, count, names)) return NULL;
     /* canonical bytes are within the limit, however long the input is */
     const size_t space = least(call.input.length, call.options.bytes);
-    PyObject *answer = canonical_bytes(call.state, call.input.bytes, call.input.length, &call.options, space);
+    PyObject *result = canonical_bytes(call.state, call.input.bytes, call.input.length, &call.options, space);
     close_call(&call);
-    return answer;
+    return result;
 }
 
 /* Closes a call that returns this object if the status is OK. */
 static PyObject *close_with(struct call *call, uint32_t status, const struct naltvigo_refusal *refusal,
-                            PyObject *answer) {
+                            PyObject *result) {
     const struct refused of = refused_by(call);
     if (status != NALTVIGO_OK) raise_status(call->state, status, refusal, &of);
     close_call(call);
-    return status == NALTVIGO_OK ? Py_NewRef(answer) : NULL;
+    return status == NALTVIGO_OK ? Py_NewRef(result) : NULL;
 }
 
 FUNCTION(check) {
@@ -125,11 +125,11 @@ FUNCTION(same) {
     const struct input *input = side == NALTVIGO_LEFT ? &left : &right;
     const struct refused of = {
         input->bytes, input->length, &options, side == NALTVIGO_LEFT ? "left" : "right", .item = 0};
-    const int is_answered = status == NALTVIGO_OK || status == NALTVIGO_DIFFERENT;
-    if (!is_answered) raise_status(state, status, &refusal, &of);
+    const int has_result = status == NALTVIGO_OK || status == NALTVIGO_DIFFERENT;
+    if (!has_result) raise_status(state, status, &refusal, &of);
     close_input(&left);
     close_input(&right);
-    return is_answered ? PyBool_FromLong(status == NALTVIGO_OK) : NULL;
+    return has_result ? PyBool_FromLong(status == NALTVIGO_OK) : NULL;
 }
 
 /* The text of an item, in a buffer of `space` bytes, or of the bytes that are needed. */

@@ -61,17 +61,17 @@ static PyObject *checker_feed(PyObject *object, PyObject *part) {
     struct checker *self = (struct checker *)object;
     struct options rest = self->options;
     struct input input;
-    PyObject *answer = NULL;
+    PyObject *result = NULL;
     if (!is_free(self)) return NULL;
     rest.bytes -= self->consumed; /* so that no more is copied than the item may still have */
     self->is_busy = 1;
     if (!open_input(&input, part, ITEM, &rest)) {
         const uint32_t status = take(self, &input);
-        if (status == NALTVIGO_OK || status == NALTVIGO_MORE) answer = PyBool_FromLong(status == NALTVIGO_OK);
+        if (status == NALTVIGO_OK || status == NALTVIGO_MORE) result = PyBool_FromLong(status == NALTVIGO_OK);
         close_input(&input);
     }
     self->is_busy = 0;
-    return answer;
+    return result;
 }
 
 static PyObject *checker_end(PyObject *object, PyObject *nothing) {

@@ -6,10 +6,9 @@
 
 const char canonicalise_doc[] =
     "canonicalise(data, *, order='bytewise', " LIMITS_WORDS SIGNATURE_END
-    "The canonical bytes of the one valid item that `data` is, in whatever encoding.\n\n"
-    "Two items have equal canonical bytes in one order exactly if their values are equal. `order` is the order of the "
-    "keys of\n"
-    "a map: 'bytewise' (RFC 8949, section 4.2.1), or 'length', the shorter key first (section 4.2.3). `keys` says which\n"
+    "The canonical bytes of `data`, which must be one valid item, in any encoding.\n\n"
+    "With the same order, two items have equal canonical bytes if and only if their values are equal. `order` is the order of\n"
+    "the keys of a map: 'bytewise' (RFC 8949, section 4.2.1), or 'length', the shorter key first (section 4.2.3). `keys` says which\n"
     "items may be keys of maps: 'any', or 'basic', only integers and texts.\n\n"
     ">>> canonicalise(b'\\x9f\\x18\\x01\\xff')      # [1], of indefinite length and with a 1 of two bytes\n"
     "b'\\x81\\x01'\n"
@@ -56,7 +55,7 @@ const char same_doc[] =
 
 const char diagnostic_doc[] =
     "diagnostic(data, *, " LIMITS_WORDS SIGNATURE_END
-    "The diagnostic text (RFC 8949, section 8) of the one valid item that `data` is, its pairs in their order.\n\n"
+    "The diagnostic text (RFC 8949, section 8) of `data`, which must be one valid item. Pairs keep their order.\n\n"
     ">>> diagnostic(bytes.fromhex('a26161018202f64161'))      # a key that is an array\n"
     "'{\"a\": 1, [2, null]: h\\'61\\'}'\n";
 
@@ -88,7 +87,7 @@ const char dumps_doc[] =
     "An integer out of range is an OverflowError, a lone surrogate a UnicodeEncodeError. Refused is raised for what "
     "the\n"
     "library refuses: a value that is nested too deeply or contains itself, is too long, or has two keys with the same\n"
-    "bytes. Each of these exceptions has a `path` (naltvigo.path_of), the way to what is wrong.\n\n"
+    "bytes. Each of these exceptions has a `path` (naltvigo.path_of) to the faulty part of the value.\n\n"
     ">>> dumps({'Fun': True, 'Amt': -2}).hex()\n"
     "'a263416d74216346756ef5'\n"
     ">>> try:\n"
@@ -99,19 +98,14 @@ const char dumps_doc[] =
 
 const char loads_doc[] =
     "loads(data, *, canonical=False, order='bytewise', " LIMITS_WORDS ", tag_hook=None, map_hook=None" SIGNATURE_END
-    "The value of the one valid item that `data` is; with `canonical` only if it is in its canonical bytes.\n\n"
-    "Arrays become lists, and maps dicts whose keys are in canonical order. Within a key, which needs a hash, they "
-    "become\n"
-    "FrozenList and FrozenDict. A tag becomes a Tag, whatever its number. `tag_hook` is called with each Tag, and "
-    "`map_hook`\n"
-    "with the dict of each map outside keys, the inner ones first; what they return takes its place. The limit "
-    "`max_bytes`\n"
-    "is for the input and for its canonical bytes.\n\n"
-    "Raises Refused as `canonicalise` does. Raises ValueError if two keys of a map are equal in Python alone, as 1 and "
-    "True\n"
-    "are, or if the keys of a map collide in the table of a dict, as keys do that were chosen for it; path_of(error) "
-    "leads\n"
-    "to the map.\n\n"
+    "The value of `data`, which must be one valid item. With `canonical` it must also be in its canonical bytes.\n\n"
+    "An array becomes a list, and a map a dict whose keys are in canonical order. The keys of a dict need a hash, so an array\n"
+    "in a key becomes a FrozenList, and a map in a key a FrozenDict. Every tag becomes a Tag. `tag_hook` is called with each Tag,\n"
+    "and `map_hook` with the dict of each map that is not in a key, the inner ones first. What they return replaces the Tag or\n"
+    "the dict. The limit `max_bytes` is for the input and for its canonical bytes.\n\n"
+    "Raises Refused as `canonicalise` does. Raises ValueError if two keys of a map are equal in Python but not in CBOR, such as\n"
+    "1 and True, or if too many keys of a map collide in the hash table of a dict, which happens if somebody chose them for it.\n"
+    "Then path_of(error) leads to the map.\n\n"
     ">>> loads(bytes.fromhex('bf6346756ef563416d7421ff'))\n"
     "{'Amt': -2, 'Fun': True}\n"
     ">>> loads(bytes.fromhex('d9d9f7a1820102f7'))\n"
@@ -126,20 +120,20 @@ const char start_machine_doc[] = "start_machine(*, depth=64, max_bytes=1048576" 
                                  "A Machine before an item's first byte, as `events` starts one.\n";
 
 const char refusal_doc[] = "refusal(reason, offset" SIGNATURE_END
-                           "A Refused of an item whose bytes came in parts, and which is wrong at this offset.\n";
+                           "The Refused for an item whose bytes arrived in parts, with this reason at this offset.\n";
 
 const char checker_doc[] =
     "Checker(*, order='bytewise', " LIMITS_WORDS SIGNATURE_END
-    "Checks one item whose bytes come in parts: whether it is valid, and in its canonical bytes.\n\n"
+    "Checks one item whose bytes arrive in parts: whether it is valid, and in its canonical bytes.\n\n"
     "`feed(part)` consumes bytes of a buffer, and returns whether the item is complete. `used` is then the number of bytes of\n"
-    "this part that belong to the item, and `consumed` the number of all its bytes. Bytes after the item are not used. `end()`\n"
-    "says that no byte follows, and returns `consumed`.\n\n"
-    "Wherever the parts begin, `feed` raises the Refused that `check_canonical` raises for all bytes so far, unless that is\n"
-    "Truncated or Trailing, and without a path. `end` raises Refused also if the item is not complete, after which more bytes may\n"
-    "follow. Any other refusal stays: each further call raises it again. `restart()` goes on with another item, with the same\n"
-    "options, also after a refusal. After a MemoryError it is needed.\n\n"
-    "Of the item only the last key of each open map is stored, and all of a key that is not complete. Memory that may change is\n"
-    "copied first. A Checker is for one thread at a time: a call during another one is a ValueError.\n\n"
+    "this part that belong to the item, and `consumed` the number of all its bytes. Bytes after the item are not used. Call\n"
+    "`end()` if no more bytes follow: it returns `consumed`.\n\n"
+    "`feed` raises the Refused that `check_canonical` raises for all bytes so far, but without a path. It does not raise\n"
+    "Truncated and Trailing. It does not matter where the parts begin. `end` also raises Refused (Truncated) if the item is not\n"
+    "complete; after that you may still feed more bytes. After any other refusal, each further call raises it again.\n"
+    "`restart()` begins another item with the same options, also after a refusal. After a MemoryError, call it.\n\n"
+    "A Checker stores only the last key of each open map, and all of a key that is not complete. Memory that may change is\n"
+    "copied first. Use a Checker in one thread at a time: a call during another call raises a ValueError.\n\n"
     ">>> checker = Checker()\n"
     ">>> checker.feed(b'\\x82\\x18'), checker.feed(b'\\x64'), checker.feed(b'\\x01\\xff')      # [100, 1] and another byte\n"
     "(False, False, True)\n"
@@ -161,8 +155,8 @@ const char simple_doc[] =
 
 const char frozen_list_doc[] =
     "An array within a key of a map, as `loads` makes it: a sequence that does not change.\n\n"
-    "It equals the tuple of its members and has its hash, so the tuple finds it. As all keys that are arrays, maps or\n"
-    "tags it equals what has the same canonical bytes: [1] and [true] are two keys.\n\n"
+    "It equals the tuple of its members and has the same hash, so a dict finds it by this tuple. Keys that are arrays, maps or\n"
+    "tags are equal if their canonical bytes are equal: [1] and [true] are two keys.\n\n"
     ">>> value = loads(bytes.fromhex('a2810161618201f56162'))\n"
     ">>> value\n"
     "{(1,): 'a', (1, True): 'b'}\n"

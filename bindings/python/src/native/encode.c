@@ -131,18 +131,18 @@ FUNCTION(dumps) {
     const struct state *state = PyModule_GetState(module);
     struct options options;
     struct encoder encoder;
-    PyObject *value, *answer = NULL;
+    PyObject *value, *result = NULL;
     if (read_arguments(state, &signature, arguments, count, names, &value, &options)) return NULL;
     start_encoder(&encoder, state, &options);
     if (encode_value(&encoder, value)) {
         set_path(state, encoder.bytes, encoder.length, &options, encoder.length);
     } else {
-        answer = canonical_bytes(state, encoder.bytes, encoder.length, &options, encoder.length);
+        result = canonical_bytes(state, encoder.bytes, encoder.length, &options, encoder.length);
     }
-    if (answer && encoder.is_stopped) {
-        Py_CLEAR(answer);
+    if (result && encoder.is_stopped) {
+        Py_CLEAR(result);
         PyErr_SetString(PyExc_SystemError, "naltvigo: the library accepts what dumps took for too long or too deep");
     }
     end_encoder(&encoder);
-    return answer;
+    return result;
 }

@@ -181,21 +181,21 @@ static PyObject *read_sequence(struct call *call, int is_canonicalising) {
     struct naltvigo_refusal refusal;
     struct cursor cursor = {call->input, call->options, 0, 0};
     struct growing ends = {NULL, 0, 0}, out = {NULL, 0, 0};
-    PyObject *answer = NULL;
+    PyObject *result = NULL;
     PyThreadState *released = release_lock(cursor.input.length);
     const uint32_t status = read_all(&cursor, &ends, is_canonicalising ? &out : NULL, &refusal);
     take_lock(released);
     if (status != NALTVIGO_OK)
         raise_at(call->state, &cursor, status, &refusal);
     else if (is_canonicalising)
-        answer = Py_BuildValue("y#N", out.length ? (char *)out.bytes : "", (Py_ssize_t)out.length,
+        result = Py_BuildValue("y#N", out.length ? (char *)out.bytes : "", (Py_ssize_t)out.length,
                                array_of(call->state, &ends));
     else
-        answer = array_of(call->state, &ends);
+        result = array_of(call->state, &ends);
     close_call(call);
     free(ends.bytes);
     free(out.bytes);
-    return answer;
+    return result;
 }
 
 FUNCTION(item_ends) {

@@ -1,6 +1,6 @@
 //! Ends what is open, and puts its bytes in their final form.
 
-ghost use Rattle.std.specs.Prelude.{◌≡◌, ◌↔◌, ◌≤◌, ◌++◌, IsTrue, false, OnOk, IfOk, drop};
+ghost use Rattle.std.specs.Prelude.{◌≡◌, ◌↔◌, ◌≤◌, ◌++◌, IsTrue, false, OnOk, OnErr, IfOk, drop};
 ghost use Rattle.std.specs.Prelude.{take, length, flat_map, IsPermutation};
 ghost use Rattle.theory_values.specs.Pairs.{pair_bytes, HasDistinctBytes};
 ghost use Rattle.theory_values.specs.Parts.{close, closed, HasNoRepeats};
@@ -16,6 +16,7 @@ use crate::frame::{Frame, Shape};
 use crate::member::complete;
 use crate::sort::sort_distinct;
 use cbor_head::Major;
+use cbor_memory::Memory;
 use cbor_output::span::rearrange;
 use std::alloc::AllocError;
 
@@ -45,10 +46,12 @@ impl Core {
 
     // Sorts the pairs of the open map. Returns false if two of its keys are equal.
     #[inline(never)]
-    fn order_pairs(&mut self, first: usize) -> Result<bool, AllocError>
+    fn order_pairs(&mut self, memory: &mut Memory, first: usize) -> Result<bool, AllocError>
         requires within { self.old.top.start ≤ length self.old.out }
         requires fits { Fits self.old.order self.old.out self.old.spans.items
             self.old.top.from self.old.top.start self.old.top.rises (Map first) }
+        ensures kept { OnOk result (memory.new ≡ memory.old) }
+        ensures refused { OnErr result (IsTrue memory.new) }
         ensures order { self.new.order ≡ self.old.order }
         ensures top { self.new.top ≡ self.old.top }
         ensures around { outers self.new ≡ outers self.old }
@@ -68,16 +71,18 @@ impl Core {
         if !self.order_spans(first) {
             return Ok(false);
         }
-        rearrange(&mut self.out, self.top.start, &self.spans[first..])?;
+        rearrange(memory, &mut self.out, self.top.start, &self.spans[first..])?;
         Ok(true)
     }
 
     // Puts the bytes of what is open in their final form. Returns false if two keys of it are
     // equal.
     #[inline(always)]
-    fn close_top(&mut self) -> Result<bool, AllocError>
+    fn close_top(&mut self, memory: &mut Memory) -> Result<bool, AllocError>
         requires laid { IsLaid self.old }
         requires closes { CanClose self.old.top.shape }
+        ensures kept { OnOk result (memory.new ≡ memory.old) }
+        ensures refused { OnErr result (IsTrue memory.new) }
         ensures order { self.new.order ≡ self.old.order }
         ensures top { self.new.top ≡ self.old.top }
         ensures around { outers self.new ≡ outers self.old }
@@ -99,18 +104,18 @@ impl Core {
         } = self.top;
         match shape {
             Shape::Plain | Shape::Key(..) => {}
-            Shape::Array(n) => self.out.fill_head(from, start, Major::Array, n)?,
+            Shape::Array(n) => self.out.fill_head(memory, from, start, Major::Array, n)?,
             Shape::Map(first) => {
                 let n = (self.spans.len() - first) as u64;
-                if !self.order_pairs(first)? {
+                if !self.order_pairs(memory, first)? {
                     return Ok(false);
                 }
                 self.spans.truncate(first);
-                self.out.fill_head(from, start, Major::Map, n)?;
+                self.out.fill_head(memory, from, start, Major::Map, n)?;
             }
             Shape::Content(major) => {
                 let n = (self.out.len() - start) as u64;
-                self.out.fill_head(from, start, major, n)?;
+                self.out.fill_head(memory, from, start, major, n)?;
             }
         }
         Ok(true)
@@ -118,18 +123,27 @@ impl Core {
 
     /// Ends what is open. Returns false, and does not end it, if it is a map with two equal keys.
     #[inline(always)]
-    pub(crate) fn end(&mut self) -> Result<bool, AllocError>
+    pub(crate) fn end(&mut self, memory: &mut Memory) -> Result<bool, AllocError>
         requires laid { IsLaid self.old }
         requires closes { CanClose self.old.top.shape }
         requires takes { OuterTakes (outers self.old) }
-        ensures { CoreEnds result self.old self.new (close self.old.order (open_levels self.old)) }
+        ensures kept { OnOk result (memory.new ≡ memory.old) }
+        ensures refused { OnErr result (IsTrue memory.new) }
+        ensures ends { CoreEnds result self.old self.new (close self.old.order (open_levels self.old)) }
     {
         let from = self.top.from;
-        if !self.close_top()? {
+        if !self.close_top(memory)? {
             return Ok(false);
         }
         if self.leave() {
-            complete(&mut self.top, &mut self.spans, &self.out, self.order, from)?;
+            complete(
+                memory,
+                &mut self.top,
+                &mut self.spans,
+                &self.out,
+                self.order,
+                from,
+            )?;
         }
         Ok(true)
     }

@@ -1,6 +1,6 @@
 //! Ends what is open, and removes it.
 
-ghost use Rattle.std.specs.Prelude.{◌≡◌, ◌↔◌, IsTrue, false};
+ghost use Rattle.std.specs.Prelude.{◌≡◌, ◌↔◌, IsTrue, IsOk, false};
 ghost use Rattle.cbor_builder.specs.Built.{around};
 ghost use Rattle.theory_values.specs.Parts.{HasNoRepeats};
 ghost use Rattle.cbor_builder.specs.inner.BuilderState.{open_levels, innermost, outers, IsLaid, IsReordered};
@@ -22,7 +22,8 @@ impl Core {
         requires laid { IsLaid self.old }
         requires closes { CanClose self.old.top.shape }
         requires takes { OuterTakes (outers self.old) }
-        ensures { CoreEnds result self.old self.new (around (open_levels self.old)) }
+        ensures ok { IsOk result }
+        ensures ends { CoreEnds result self.old self.new (around (open_levels self.old)) }
     {
         if !self.give_up_pairs() {
             return Ok(false);

@@ -1,19 +1,21 @@
 //! What is open around the innermost.
 
-ghost use Rattle.std.specs.Prelude.{◌≡◌, [], IsTrue, false, OnOk};
+ghost use Rattle.std.specs.Prelude.{◌≡◌, [], IsTrue, false, OnOk, OnErr};
 ghost use Rattle.cbor_builder.specs.inner.BuilderState.{frames, outers, IsRooted};
 
 use crate::builder::Core;
 use crate::frame::Frame;
-use cbor_output::reserve::push_copy;
+use cbor_memory::Memory;
 use std::alloc::AllocError;
 
 impl Core {
     // Adds the innermost frame to those around it, so that a new one can begin
     // inside it.
     #[inline(always)]
-    pub(crate) fn enter(&mut self) -> Result<(), AllocError>
+    pub(crate) fn enter(&mut self, memory: &mut Memory) -> Result<(), AllocError>
         requires rooted { IsRooted self.old }
+        ensures kept { OnOk result (memory.new ≡ memory.old) }
+        ensures refused { OnErr result (IsTrue memory.new) }
         ensures order { self.new.order ≡ self.old.order }
         ensures out { self.new.out ≡ self.old.out }
         ensures spans { self.new.spans.items ≡ self.old.spans.items }
@@ -25,7 +27,7 @@ impl Core {
             self.is_open = true;
             return Ok(());
         }
-        push_copy(&mut self.below, &self.top)
+        memory.push_copy(&mut self.below, &self.top)
     }
 
     // Makes the frame around the innermost the new innermost. Returns false if

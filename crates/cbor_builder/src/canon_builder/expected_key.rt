@@ -7,6 +7,7 @@ ghost use Rattle.cbor_builder.specs.Built.{IsRepeatReported, IsRepeatedKey, IsWa
 use crate::canon_builder::CanonBuilder;
 use crate::repeat::Repeat;
 use cbor_head::KeyOrder;
+use cbor_memory::Memory;
 
 impl CanonBuilder {
     /// The order of the keys.
@@ -14,6 +15,14 @@ impl CanonBuilder {
         ensures { result ≡ self.now.order }
     {
         self.core.order
+    }
+
+    /// The requests for memory since the builder was made or cleared. One of them was refused if a call has returned an
+    /// error.
+    pub fn memory(&self) -> &Memory
+        ensures { result.now ≡ self.now.refused }
+    {
+        &self.memory
     }
 
     /// Whether the next part begins a key of a map. Allocates nothing.
@@ -53,6 +62,7 @@ impl CanonBuilder {
     /// needs about n log n comparisons for n pairs.
     pub fn first_repeat(&mut self) -> Option<Repeat>
         ensures order { self.new.order ≡ self.old.order }
+        ensures memory { self.new.refused ≡ self.old.refused }
         ensures reported { MatchOption result (AreOpenKeysDifferent self.old.open_levels)
             (λ repeat. IsRepeatReported self.old.open_levels repeat.outside repeat.pair) }
         ensures left { self.new.open_levels ≡ [] }

@@ -17,6 +17,7 @@ use crate::part::{PartialEvent, read_part};
 use cbor_head::{Event, Reason, Refusal};
 use cbor_machine::Machine;
 use std::io::Read;
+use theory_values::is_other_kind;
 
 // The head of a key that must be an integer or a text, or a break.
 //
@@ -84,7 +85,7 @@ fn is_other(part: &PartialEvent, first: u8, place: u64) -> bool
     ensures basic { result ≡ false → IsTakenAt part.now place
         → IsTrue (first_bytes.is_basic (first / 32)) ⊎ (first ≡ 0xff) }
 {
-    if matches!(first / 32, 0 | 1 | 3) || first == 0xff {
+    if !is_other_kind(first) {
         return false;
     }
     match part {

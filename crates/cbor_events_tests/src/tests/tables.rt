@@ -88,7 +88,7 @@ pub(super) static NOT_VALID: &str = r#"
 a26161007f6161ff01 | | 0 map 2 0  1 text 1 0  2 piece 1 0  3 unsigned 0 0  4 text - -  5 chunk 1 0  6 piece 1 0  7 end - -  8 unsigned 1 0 | done 9 | {"a": 0, (_ "a"): 1}
 a26261610061ff00 | | 0 map 2 0  1 text 2 0  2 piece 2 0  4 unsigned 0 0  5 text 1 0  6 piece 1 0  7 unsigned 0 0 | done 8 | {"aa": 0, and a text that is not UTF-8: 0}
 7f616161ffff | | 0 text - -  1 chunk 1 0  2 piece 1 0  3 chunk 1 0  4 piece 1 0  5 end - - | done 6 | (_ "a", and a text that is not UTF-8)
-9fffff | | 0 array - -  1 end - - | done 2 | [_ ], and a break behind it
+9fffff | | 0 array - -  1 end - - | done 2 | [_ ], and a break after it
 "#;
 
 // Prefixes of items: all bytes are consumed, and the item is not complete.

@@ -1,6 +1,6 @@
 -- What a tree builder holds.
 use Rattle.std.specs.Prelude.{◌<◌, List, [], ◌∷◌, Option, Some, None, map, reverse, vec_len, vec_capacity}
-use Rattle.cbor_item.specs.OpenValues.{OpenItem, OpenValue, the_whole, an_array, a_map, a_key, a_tag, open_value}
+use Rattle.cbor_item.specs.OpenValues.{OpenItem, OpenValue, Building, the_whole, an_array, a_map, a_key, a_tag, open_value}
 use Rattle.cbor_item.specs.declared.tree_level.Level.TheVariants.{Whole, Array, Map, Tag}
 use Rattle.cbor_item.specs.declared.{item.Item.Item, tree_level.Level.Level, tree_builder.TreeBuilder.TheInside.Inside}
 
@@ -29,5 +29,5 @@ HasSpace (Map pairs key) = vec_len pairs < vec_capacity pairs
 HasSpace _ = Unit {0}
 
 -- the innermost first
-abbrev pub open_items : Inside → List OpenItem
-open_items b = open_item b.top ∷ map open_item (reverse b.below.items)
+abbrev pub open_items : Inside → Building Item
+open_items b = record { items = open_item b.top ∷ map open_item (reverse b.below.items); refused = b.memory }

@@ -2,7 +2,7 @@
 
 use bumpalo::Bump;
 use cbor_head::Major;
-use cbor_item::{Item, Joined, Node, NodeKind, View, ViewBuilder};
+use cbor_item::{Item, Joined, Memory, Node, NodeKind, View, ViewBuilder};
 use std::test::Fail;
 
 // {"a": [h'01', -1], 1(true): "bc"}, with two strings that are copied
@@ -43,17 +43,19 @@ fn joins_chunks(rt: HostRuntime) -> Result<(), Fail> {
     for i in 0..input.len() {
         input[i] = i as u8;
     }
+    let mut memory = Memory::new();
     let mut joined = Joined::new(rt.alloc());
     assert!(rt; joined.as_slice().is_empty());
     let mut wanted = Vec::new(rt.alloc());
     for count in [0, 1, 31, 32, 33, 80, 2, 80, 1] {
-        joined.extend_prefix(&input, count)?;
+        joined.extend_prefix(&mut memory, &input, count)?;
         wanted.extend_from_slice(&input[..count])?;
         assert!(rt; joined.as_slice() == wanted.as_slice());
     }
     joined.clear();
-    joined.extend_prefix(b"bc", 1)?;
+    joined.extend_prefix(&mut memory, b"bc", 1)?;
     assert!(rt; joined.as_slice() == b"b".as_slice());
+    assert!(rt; !memory.is_refused());
     Ok(())
 }
 

@@ -6,6 +6,7 @@ use Rattle.cbor_head.specs.declared.order.KeyOrder.{KeyOrder}
 use Rattle.theory_verdicts.specs.Path.{Level, bytes_before, AreClean, IsKeyExpectedIn, MayBreak}
 use Rattle.theory_verdicts.specs.{Kinds.KeepsToKinds, Stop.IsStopped, RefusedHere.IsPlaceFor, RefusedHere.IsRefusedBy}
 use Rattle.cbor_parser.specs.declared.item_start.{ItemStart.TheVariants.Indefinite, ItemStart.TheVariants.Refused, Here.Here, ItemStart.ItemStart}
+use Rattle.cbor_parser.specs.inner.Begins.{AreWholeChunks}
 
 -- the rules of the deterministic encoding, in either order; or those of any valid item
 abbrev pub AreRulesOf : Bool → Rules → Type 0
@@ -40,5 +41,5 @@ AreChunksRefused b at f = (space : Bool) → IsRefusedBy plain space b at f
 abbrev pub IsIndefiniteStart : Bool → ℕ → List ℕ → ℕ → ItemStart → Type 0
 IsIndefiniteStart true first behind at start = start ≡ Refused (refusal IndefiniteReason at (at + 1))
 IsIndefiniteStart false first behind at (Refused f) = AreChunksRefused (first ∷ behind) at f
-IsIndefiniteStart false first behind at Indefinite = Unit {0}
+IsIndefiniteStart false first behind at Indefinite = (first ≡ 0x5f → AreWholeChunks false behind) × (first ≡ 0x7f → AreWholeChunks true behind)
 IsIndefiniteStart false first behind at _ = ⊥

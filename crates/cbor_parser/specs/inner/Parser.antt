@@ -1,7 +1,8 @@
 -- The state of the walk over a valid item: what is still to come in the open containers, and a sink that was given what is
 -- complete.
-use Rattle.std.specs.Prelude.{◌≡◌, ℕ, ◌-◌, ◌^◌, ◌<◌, ◌≤◌, Bool, true, false, List, [], ◌∷◌, ◌++◌, length, take}
-use Rattle.cbor_head.specs.Prelude.{Bounds, Spelling, spell, IsSpelled, depth}
+use Rattle.std.specs.Prelude.{◌≡◌, ℕ, ◌-◌, ◌^◌, ◌<◌, ◌≤◌, ◌⊎◌, Bool, true, false, List, [], ◌∷◌, ◌++◌, length, take}
+use Rattle.cbor_head.specs.Prelude.{plain, refusal, refused, Bounds, IsVerdict, Spelling, spell, IsSpelled, depth}
+use Rattle.cbor_head.specs.declared.reason.Reason.TheVariants.{Memory}
 use Rattle.cbor_builder.specs.declared.repeat.Repeat.{Repeat}
 use Rattle.theory_verdicts.specs.Levels.{IsClean, IsTaken, Level, AreLevels, bytes_before, ParseState, item_expected, item_whole, settle}
 use Rattle.cbor_parser.specs.declared.parser.ParseError.TheVariants as error
@@ -9,7 +10,7 @@ use Rattle.cbor_parser.specs.declared.parser.SinkStop.TheVariants as stop
 use Rattle.cbor_parser.specs.declared.item_rules.Part.TheVariants as part
 use Rattle.cbor_parser.specs.Sink.{StandsFull, Reported, IsReportedFull, IsWithin}
 use Rattle.cbor_parser.specs.declared.{parser.ParseError.ParseError, parser.Parser.Parser, parser.SinkStop.SinkStop, item_rules.Part.Part}
-use Rattle.cbor_parser.specs.{inner.Repeated.IsKeyReported, ParsedItem.IsStop, inner.Kept.KeepsBefore, inner.OpenContainer.cells_of, inner.OpenContainer.Cell}
+use Rattle.cbor_parser.specs.inner.{Repeated.IsKeyReported, Kept.KeepsBefore, OpenContainer.cells_of, OpenContainer.Cell, Begins.NothingBegins, Begins.IsLeft}
 use Rattle.cbor_parser.specs.inner.{OpenMaps.IsCellOf, Rules.behind}
 
 -- ---- what is known about an input
@@ -18,11 +19,11 @@ use Rattle.cbor_parser.specs.inner.{OpenMaps.IsCellOf, Rules.behind}
 abbrev pub BeginsTaken : ℕ → List ℕ → Type 0
 BeginsTaken d input = (item : Spelling) × (rest : List ℕ) × IsTaken d item × (input ≡ spell item ++ rest)
 
--- why the bytes within the limits begin with no valid item, unless it is known that they begin with one; or a key of an open map
--- is reported that is the same as an earlier one
-abbrev pub IsStopWithin : Bool → Bounds → List ℕ → ParseError → Type 0
-IsStopWithin trusts limits input (error.Refused f) = trusts ≡ false → (bytes : List ℕ) → input ≡ take limits.bytes bytes → IsStop limits bytes f
-IsStopWithin trusts limits input (error.Repeated behind pair) = IsKeyReported limits input behind pair
+-- why the bytes within the limits begin with no valid item, or memory was refused; or a key of an open map is reported that
+-- is the same as an earlier one
+abbrev pub IsStopWithin : Type 0 → Bounds → List ℕ → ParseError → Type 0
+IsStopWithin lacked limits input (error.Refused f) = ((bytes : List ℕ) → input ≡ take limits.bytes bytes → IsVerdict limits plain bytes (refused f)) ⊎ ((f ≡ refusal Memory 0 0) × lacked)
+IsStopWithin lacked limits input (error.Repeated behind pair) = IsKeyReported limits input behind pair
 
 -- ---- the position of the walk, before the rest of an input, with the sink and its first state
 
@@ -97,24 +98,25 @@ module _ (S : Type 0) (stands : S → S → ParseState → Type 0) (trusts : Boo
     abbrev pub HasCome : S → ℕ → List ℕ → List Cell → S → List ℕ → Type 0
     HasCome start d input cs g rest = StandsBefore (IsWithin S stands holds start g) d input cs rest
 
-    -- ---- what is taken
+    -- ---- what is taken, by the states of a sink of which a request was refused
 
-    abbrev pub TakesTo : Part SinkStop → S → ℕ → List ℕ → List ℕ → List Cell → S → Type 0
-    TakesTo (part.Item used) start d input rest cs g = (0 < used) × (used ≤ length rest) × HasEnded start d input cs g (behind used rest)
-    TakesTo (part.Head used) start d input rest cs g = (0 < used) × (used ≤ length rest) × IsExpected start d input cs g (behind used rest)
-    TakesTo (part.Break used) start d input rest cs g = (0 < used) × (used ≤ length rest) × HasFilled start d input cs g (behind used rest)
-    TakesTo part.Untaken start d input rest cs g = IsExpected start d input cs g rest
-    TakesTo (part.Stopped stop.Broken) start d input rest cs g = HasCome start d input cs g rest
-    TakesTo (part.Stopped stop.Repeated) start d input rest cs g = ⊥
-    TakesTo (part.Stopped stop.Memory) start d input rest cs g = Unit {0}
+    module _ (lacked : S → Type 0) where
+      abbrev pub TakesTo : Part SinkStop → S → ℕ → List ℕ → List ℕ → List Cell → S → Type 0
+      TakesTo (part.Item used) start d input rest cs g = (0 < used) × (used ≤ length rest) × HasEnded start d input cs g (behind used rest)
+      TakesTo (part.Head used) start d input rest cs g = (0 < used) × (used ≤ length rest) × IsExpected start d input cs g (behind used rest)
+      TakesTo (part.Break used) start d input rest cs g = (0 < used) × (used ≤ length rest) × HasFilled start d input cs g (behind used rest)
+      TakesTo part.Untaken start d input rest cs g = IsExpected start d input cs g rest
+      TakesTo (part.Stopped stop.Broken) start d input rest cs g = HasCome start d input cs g rest × NothingBegins rest
+      TakesTo (part.Stopped stop.Repeated) start d input rest cs g = ⊥
+      TakesTo (part.Stopped stop.Memory) start d input rest cs g = lacked g
 
-    -- with these cells and this sink before, and those after
-    abbrev pub Takes : Part SinkStop → ℕ → List ℕ → List Cell → S → List Cell → S → Type 0
-    Takes result d rest cs g now new = (start : S) (input : List ℕ) → IsExpected start d input cs g rest → TakesTo result start d input rest now new
+      -- with these cells and this sink before, and those after
+      abbrev pub Takes : Part SinkStop → ℕ → List ℕ → List Cell → S → List Cell → S → Type 0
+      Takes result d rest cs g now new = (start : S) (input : List ℕ) → IsExpected start d input cs g rest → TakesTo result start d input rest now new
 
-    -- the same for any cells around this one
-    abbrev pub TakesItem : Part SinkStop → List ℕ → Cell → S → S → Type 0
-    TakesItem result rest top g new = (d : ℕ) (outer : List Cell) → Takes result d rest (top ∷ outer) g (top ∷ outer) new
+      -- the same for any cells around this one
+      abbrev pub TakesItem : Part SinkStop → List ℕ → Cell → S → S → Type 0
+      TakesItem result rest top g new = (d : ℕ) (outer : List Cell) → Takes result d rest (top ∷ outer) g (top ∷ outer) new
 
 -- ---- the position of a parse, with its first state: no key of another kind began
 
@@ -133,11 +135,12 @@ module _ (S : Type 0) (stands : S → S → ParseState → Type 0) (trusts : Boo
   Passes first now limits input rest = IsBuilt S stands trusts first.sink limits.depth input now.sink rest × KeepsBefore limits.depth limits.keys input rest
 
   -- it stops: within a string, at equal keys, or because memory was refused
-  abbrev pub Stops : (holds : S → S → List Level → Bool → List ℕ → Type 0) → Parser S → Parser S → Bounds → List ℕ → List Cell → List ℕ → SinkStop → Type 0
-  Stops holds first now limits input cs rest stop.Broken = HasCome S stands trusts holds first.sink limits.depth input cs now.sink rest × KeepsBefore limits.depth limits.keys input rest
-  Stops holds first now limits input cs rest stop.Repeated = IsRepeatVisited S stands trusts now.repeat limits.depth input cs rest × KeepsBefore limits.depth limits.keys input rest
-  Stops holds first now limits input cs rest stop.Memory = Unit {0}
+  abbrev pub Stops : (holds : S → S → List Level → Bool → List ℕ → Type 0) → (lacked : S → Type 0) → Parser S → Parser S → Bounds → List ℕ → List Cell → List ℕ → SinkStop → Type 0
+  Stops holds lacked first now limits input cs rest stop.Broken = HasCome S stands trusts holds first.sink limits.depth input cs now.sink rest × KeepsBefore limits.depth limits.keys input rest × NothingBegins rest
+  Stops holds lacked first now limits input cs rest stop.Repeated = IsRepeatVisited S stands trusts now.repeat limits.depth input cs rest × KeepsBefore limits.depth limits.keys input rest
+  Stops holds lacked first now limits input cs rest stop.Memory = lacked now.sink
 
--- a missing cell is never the reason to stop
-abbrev pub LacksNothing : Bounds → List Cell → ℕ → Type 0
-LacksNothing limits cs count = Unit {0}
+-- what is next may be left in these containers
+abbrev pub Lacks : Bounds → List Cell → ℕ → List ℕ → Type 0
+Lacks limits [] count rest = ⊥
+Lacks limits (top ∷ outer) count rest = IsLeft limits.keys limits.depth top (length outer) count rest

@@ -38,6 +38,11 @@ pub record IsPayload (trusts is_text : Bool) (count size : ℕ) (rest : List ℕ
   pub inside : count ≤ length rest
   pub utf8 : trusts ≡ false → is_text ≡ true → IsUtf8 (take count rest)
 
+-- the whole payload is at the start, and is UTF-8 if it is a text's
+pub record IsWholePayload (is_text : Bool) (count : ℕ) (rest : List ℕ) : Type 0 where
+  pub inside : count ≤ length rest
+  pub utf8 : is_text ≡ true → IsUtf8 (take count rest)
+
 -- the opener of a string in chunks, and these bytes after it
 abbrev pub chunked_from : Bool → List ℕ → List ℕ
 chunked_from is_text behind = head (string_major is_text) Indefinite 0 ++ behind

@@ -29,13 +29,13 @@ IsFilled R K fills passes first now limits input (c ∷ []) rest = passes first 
 IsFilled R K fills passes first now limits input (c ∷ d ∷ cs) rest = fills first now limits input (c ∷ d ∷ cs) rest
 
 module _ (R K E : Type 0) (stands : R → R → Bounds → List ℕ → List (OpenContainer K) → List ℕ → Type 0) (stops : R → R → Bounds → List ℕ → List (OpenContainer K) → List ℕ → E → Type 0) where
-  module _ (ends fills : R → R → Bounds → List ℕ → List (OpenContainer K) → List ℕ → Type 0) (passes : R → R → Bounds → List ℕ → List ℕ → Type 0) (lacks : Bounds → List (OpenContainer K) → ℕ → Type 0) where
+  module _ (ends fills : R → R → Bounds → List ℕ → List (OpenContainer K) → List ℕ → Type 0) (passes : R → R → Bounds → List ℕ → List ℕ → Type 0) (lacks : Bounds → List (OpenContainer K) → ℕ → List ℕ → Type 0) where
     -- what is taken where an item is expected, with this number of cells
     abbrev pub TakesTo : Part E → R → R → Bounds → List ℕ → List (OpenContainer K) → ℕ → List ℕ → Type 0
     TakesTo (part.Item used) first now limits input cs count rest = (0 < used) × (used ≤ length rest) × ends first now limits input cs (behind used rest)
     TakesTo (part.Head used) first now limits input cs count rest = (0 < used) × (used ≤ length rest) × stands first now limits input cs (behind used rest)
     TakesTo (part.Break used) first now limits input cs count rest = (0 < used) × (used ≤ length rest) × IsFilled R K fills passes first now limits input cs (behind used rest)
-    TakesTo part.Untaken first now limits input cs count rest = stands first now limits input cs rest × lacks limits cs count
+    TakesTo part.Untaken first now limits input cs count rest = stands first now limits input cs rest × lacks limits cs count rest
     TakesTo (part.Stopped e) first now limits input cs count rest = stops first now limits input cs rest e
 
   -- what follows an item that is complete before these bytes
@@ -51,8 +51,8 @@ module _ (R K E : Type 0) (stands : R → R → Bounds → List ℕ → List (Op
   LeadsTo passes (then.Stopped e) first now limits input cs rest = stops first now limits input cs rest e
 
   -- where a walk stops, with this number of cells
-  abbrev pub StopsAt : (lacks : Bounds → List (OpenContainer K) → ℕ → Type 0) → WalkStop E → R → R → Bounds → List ℕ → List (OpenContainer K) → ℕ → Type 0
-  StopsAt lacks (stop.Untaken rest) first now limits input cs count = stands first now limits input cs rest.now × lacks limits cs count
+  abbrev pub StopsAt : (lacks : Bounds → List (OpenContainer K) → ℕ → List ℕ → Type 0) → WalkStop E → R → R → Bounds → List ℕ → List (OpenContainer K) → ℕ → Type 0
+  StopsAt lacks (stop.Untaken rest) first now limits input cs count = stands first now limits input cs rest.now × lacks limits cs count rest.now
   StopsAt lacks (stop.Stopped rest e) first now limits input cs count = stops first now limits input cs rest.now e
 
 -- what follows when a complete container closes: an item of the container around it is complete

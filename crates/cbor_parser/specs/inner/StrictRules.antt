@@ -40,8 +40,8 @@ abbrev pub Pass : StrictRules → StrictRules → Bounds → List ℕ → List �
 Pass first now limits input rest = AreBefore first now input rest × IsWhole first.order limits input (length input - length rest)
 
 -- all cells are in use, but more containers may open
-abbrev pub LackCells : Bounds → List StrictCell → ℕ → Type 0
-LackCells limits cs count = (length cs ≡ suc count) × (count < limits.depth)
+abbrev pub LackCells : Bounds → List StrictCell → ℕ → List ℕ → Type 0
+LackCells limits cs count rest = (length cs ≡ suc count) × (count < limits.depth)
 
 -- the input is refused, or the key that was expected in the innermost container and has ended
 abbrev pub Stop : StrictRules → StrictRules → Bounds → List ℕ → List StrictCell → List ℕ → StrictStop → Type 0

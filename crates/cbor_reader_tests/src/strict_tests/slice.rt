@@ -17,7 +17,7 @@ a2a1010100a1010000 | 256 1048576 | 16 KeyOrder at 5, read 8 | {{1: 1}: 0, {1: 0}
 9bffffffffffffffff | 256 1048576 | 1 Truncated at 9, read 9 | an array of 2^64 - 1
 bbffffffffffffffff | 256 1048576 | 1 Truncated at 9, read 9 | a map of 2^64 - 1
 a20100180100 | 256 5 | 14 NotShortest at 3, read 5 | {1: 0, 1: 0}: the second key ends at the limit
-a20100180100 | 256 4 | 2 TooLong at 4, read 4 | {1: 0, 1: 0}: the second key ends behind the limit
+a20100180100 | 256 4 | 2 TooLong at 4, read 4 | {1: 0, 1: 0}: the second key ends after the limit
 818101 | 2 3 | 3 | [[1]]
 818101 | 1 3 | 9 TooDeep at 1, read 2 | [[1]]
 a201a102000200ff | 256 64 | 7 | {1: {2: 0}, 2: 0} and what follows it
@@ -28,10 +28,10 @@ a1a20100000000 | 256 64 | 16 KeyOrder at 4, read 5 | {{1: 0, 0: 0}: 0}
 a2a20000010000a20000010000 | 256 64 | 16 KeyOrder at 7, read 12 | {{0: 0, 1: 0}: 0, {0: 0, 1: 0}: 0}
 a2c10000c10000 | 256 64 | 16 KeyOrder at 4, read 6 | {1(0): 0, 1(0): 0}
 83a10100a10000a200000000 | 256 64 | 16 KeyOrder at 10, read 11 | [{1: 0}, {0: 0}, {0: 0, 0: 0}]: each map begins anew
-a26261610061ff00 | 256 64 | 10 InvalidText at 6, read 7 | a text that is none, and does not rise behind 'aa': the text is told
-a20100180100 | 256 64 | 14 NotShortest at 3, read 5 | a key that is no shortest head, and does not rise: the head is told
-a2010001 | 256 64 | 16 KeyOrder at 3, read 4 | {1: 0, 1, and nothing behind it
-a2010002 | 256 64 | 1 Truncated at 4, read 4 | {1: 0, 2, and nothing behind it
+a26261610061ff00 | 256 64 | 10 InvalidText at 6, read 7 | a text that is not UTF-8, and sorts before 'aa': the text is reported
+a20100180100 | 256 64 | 14 NotShortest at 3, read 5 | a key whose head is not the shortest, and that equals the last key: the head is reported
+a2010001 | 256 64 | 16 KeyOrder at 3, read 4 | {1: 0, 1, and nothing after it
+a2010002 | 256 64 | 1 Truncated at 4, read 4 | {1: 0, 2, and nothing after it
 a30a001864002000 | 256 64 | 8 | {10: 0, 100: 0, -1: 0}
 a30a002000186400 | 256 64 | 16 KeyOrder at 5, read 7 | {10: 0, -1: 0, 100: 0}
 ";

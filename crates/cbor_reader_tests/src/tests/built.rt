@@ -82,7 +82,7 @@ fn look_for(rt: &impl Abort, alloc: Global, case: &Case, name: &str) {
             Ok(CowSlice::Borrowed(bytes)) => bytes == case.canonical.as_slice(),
             _ => false,
         };
-        assert!(rt; is_same, "{name}, as it stands");
+        assert!(rt; is_same, "{name}, unchanged");
     }
     let count = check_valid(alloc, &case.input, limits);
     assert!(rt; count == Ok(case.input.len() as u64), "{name}");

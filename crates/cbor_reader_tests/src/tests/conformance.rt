@@ -114,7 +114,7 @@ fn checks_slices(rt: HostRuntime) -> Result<(), Fail> {
         let wanted = by_order(row.plain, KeyOrder::Bytewise);
         let checked = check_valid(rt.alloc(), &row.input, row.limits);
         let again = items.check(&row.input, row.limits);
-        assert!(rt; again == checked, "{}, behind others", row.line);
+        assert!(rt; again == checked, "{}, after others", row.line);
         let given = match checked {
             Ok(count) if wanted.starts_with("12 ") => {
                 format!(in rt.alloc(); "12 Trailing at {count}, read {count}")?

@@ -2,7 +2,7 @@
 //!
 //! One row a line, with five columns between bars; a line that begins with `//` heads the rows below:
 //!
-//! 1. The input in hex digits. `256*c1` stands for 256 times `c1`.
+//! 1. The input in hex digits. `256*c1` means `c1` 256 times.
 //! 2. The limits: `depth 1`, `bytes 4`, `keys basic`, or more of them in this order. Without them the
 //!    depth is 256, the bytes 1048576, and keys are of any kind; `basic` is `IntegersAndTexts`.
 //! 3. The canonical bytes of the input (RFC 8949, section 4.2): `same`, or the bytes in hex; with a

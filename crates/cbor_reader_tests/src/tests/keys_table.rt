@@ -23,7 +23,7 @@ a15fff00 | keys basic | 20 KeyKind at 1, read 2 | | before the length that is mi
 a19fff00 | | a18000 | 15 Indefinite at 1, read 2 | {[]: 0}, keys of any kind
 a19fff00 | keys basic | 20 KeyKind at 1, read 2 | | before the length that is missing
 a1bfff00 | keys basic | 20 KeyKind at 1, read 2 | | before the length that is missing
-// .. at each depth, and behind others
+// .. at each depth, and after others
 a100a18000 | keys basic | 20 KeyKind at 3, read 4 | | {0: {[]: 0}}
 81a1f400 | keys basic | 20 KeyKind at 2, read 3 | | [{false: 0}]
 a1a1800000 | keys basic | 20 KeyKind at 1, read 2 | | {{[]: 0}: 0}: the outer key
@@ -32,7 +32,7 @@ a200004000 | keys basic | 20 KeyKind at 3, read 4 | | {0: 0, h'': 0}
 a26161004000 | keys basic | 20 KeyKind at 4, read 5 | | {"a": 0, h'': 0}: before the order
 a201000100 | keys basic | 11 RepeatedKey at 3, read 4 | 16 KeyOrder at 3, read 4 | {1: 0, 1: 0}
 a20061ff8000 | keys basic | 10 InvalidText at 3, read 4 | | the text before it
-// The first byte of a key tells its kind.
+// The first byte of a key decides its kind.
 a1 | keys basic | 1 Truncated at 1, read 1 | | a map without its pair
 a1f8 | keys basic | 20 KeyKind at 1, read 2 | | a simple value without its number
 a1f8 | bytes 2 keys basic | 20 KeyKind at 1, read 2 | | the number is past the limit

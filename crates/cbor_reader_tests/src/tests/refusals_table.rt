@@ -107,8 +107,8 @@ bf00ff | | 7 StrayBreak at 2, read 3 | 15 Indefinite at 0, read 1 | a break in p
 5f6100ff | | 8 BadChunk at 1, read 2 | 15 Indefinite at 0, read 1 | a text as a chunk of a byte string
 5f5f4100ffff | | 8 BadChunk at 1, read 2 | 15 Indefinite at 0, read 1 | chunks within a chunk
 7f7f6100ffff | | 8 BadChunk at 1, read 2 | 15 Indefinite at 0, read 1 | chunks within a chunk
-5f41001c | | 8 BadChunk at 3, read 4 | 15 Indefinite at 0, read 1 | behind a chunk
-7f616100ff | | 8 BadChunk at 3, read 4 | 15 Indefinite at 0, read 1 | behind a chunk
+5f41001c | | 8 BadChunk at 3, read 4 | 15 Indefinite at 0, read 1 | after a chunk
+7f616100ff | | 8 BadChunk at 3, read 4 | 15 Indefinite at 0, read 1 | after a chunk
 // Depth.
 c1c100 | depth 1 | 9 TooDeep at 1, read 2 | | 1(1(0))
 c100 | depth 1 | same | | 1(0)
@@ -132,17 +132,17 @@ a10080 | depth 1 | 9 TooDeep at 2, read 3 | | {0: []}
 1025*c1 00 | depth 1024 | 9 TooDeep at 1024, read 1025 | | 0 in 1025 tags
 1024*a100 00 | depth 1023 | 9 TooDeep at 2046, read 2047 | | 0 in 1024 maps
 // Texts that are not UTF-8.
-61ff | | 10 InvalidText at 1, read 2 | | ff never stands in UTF-8
+61ff | | 10 InvalidText at 1, read 2 | | UTF-8 never has ff
 63eda080 | | 10 InvalidText at 1, read 4 | | a surrogate
-6341c080 | | 10 InvalidText at 2, read 4 | | a character in too many bytes, behind "A"
+6341c080 | | 10 InvalidText at 2, read 4 | | a character in too many bytes, after "A"
 6341e6b0 | | 10 InvalidText at 2, read 4 | | the text ends within a character
 64f4908080 | | 10 InvalidText at 1, read 5 | | past U+10FFFF
-7801ff | | 10 InvalidText at 2, read 3 | 14 NotShortest at 0, read 2 | behind a head of two bytes
+7801ff | | 10 InvalidText at 2, read 3 | 14 NotShortest at 0, read 2 | after a head of two bytes
 7f61c361bcff | | 10 InvalidText at 2, read 3 | 15 Indefinite at 0, read 1 | a character cut by a chunk's end
 7f61ff6161ff | | 10 InvalidText at 2, read 3 | 15 Indefinite at 0, read 1 | the first chunk
 7f616161ffff | | 10 InvalidText at 4, read 5 | 15 Indefinite at 0, read 1 | the second chunk
 7f616162c328ff | | 10 InvalidText at 4, read 6 | 15 Indefinite at 0, read 1 | the second chunk, from its first byte
-7f61616242c3ff | | 10 InvalidText at 5, read 6 | 15 Indefinite at 0, read 1 | the second chunk, behind "B"
+7f61616242c3ff | | 10 InvalidText at 5, read 6 | 15 Indefinite at 0, read 1 | the second chunk, after "B"
 a161ff | | 10 InvalidText at 2, read 3 | | the complaint ends before the input does
 a26261610061ff00 | | 10 InvalidText at 6, read 7 | | before the order of keys, which ends there too
 // Repeated keys.
@@ -156,8 +156,8 @@ a1a1a2010001000000 | | 11 RepeatedKey at 5, read 6 | 16 KeyOrder at 5, read 6 | 
 a281a2010002000081a20200010000 | | 11 RepeatedKey at 8, read 14 | 16 KeyOrder at 12, read 13 | {[{1: 0, 2: 0}]: 0, [{2: 0, 1: 0}]: 0}
 a201 9*81 000100 | | 11 RepeatedKey at 12, read 13 | 16 KeyOrder at 12, read 13 | {1: within nine arrays, 1: 0}
 a201 65*81 000100 | | 11 RepeatedKey at 68, read 69 | 16 KeyOrder at 68, read 69 | {1: within 65 arrays, 1: 0}
-b9010100000100020003000400050006000700080009000a000b000c000d000e000f0010001100120013001400150016001700181800181900181a00181b00181c00181d00181e00181f00182000182100182200182300182400182500182600182700182800182900182a00182b00182c00182d00182e00182f00183000183100183200183300183400183500183600183700183800183900183a00183b00183c00183d00183e00183f00184000184100184200184300184400184500184600184700184800184900184a00184b00184c00184d00184e00184f00185000185100185200185300185400185500185600185700185800185900185a00185b00185c00185d00185e00185f00186000186100186200186300186400186500186600186700186800186900186a00186b00186c00186d00186e00186f00187000187100187200187300187400187500187600187700187800187900187a00187b00187c00187d00187e00187f00188000188100188200188300188400188500188600188700188800188900188a00188b00188c00188d00188e00188f00189000189100189200189300189400189500189600189700189800189900189a00189b00189c00189d00189e00189f0018a00018a10018a20018a30018a40018a50018a60018a70018a80018a90018aa0018ab0018ac0018ad0018ae0018af0018b00018b10018b20018b30018b40018b50018b60018b70018b80018b90018ba0018bb0018bc0018bd0018be0018bf0018c00018c10018c20018c30018c40018c50018c60018c70018c80018c90018ca0018cb0018cc0018cd0018ce0018cf0018d00018d10018d20018d30018d40018d50018d60018d70018d80018d90018da0018db0018dc0018dd0018de0018df0018e00018e10018e20018e30018e40018e50018e60018e70018e80018e90018ea0018eb0018ec0018ed0018ee0018ef0018f00018f10018f20018f30018f40018f50018f60018f70018f80018f90018fa0018fb0018fc0018fd0018fe0018ff000000 | | 11 RepeatedKey at 747, read 748 | 16 KeyOrder at 747, read 748 | a key that is repeated behind 256 pairs
-// .. in open maps, and beside other refusals
+b9010100000100020003000400050006000700080009000a000b000c000d000e000f0010001100120013001400150016001700181800181900181a00181b00181c00181d00181e00181f00182000182100182200182300182400182500182600182700182800182900182a00182b00182c00182d00182e00182f00183000183100183200183300183400183500183600183700183800183900183a00183b00183c00183d00183e00183f00184000184100184200184300184400184500184600184700184800184900184a00184b00184c00184d00184e00184f00185000185100185200185300185400185500185600185700185800185900185a00185b00185c00185d00185e00185f00186000186100186200186300186400186500186600186700186800186900186a00186b00186c00186d00186e00186f00187000187100187200187300187400187500187600187700187800187900187a00187b00187c00187d00187e00187f00188000188100188200188300188400188500188600188700188800188900188a00188b00188c00188d00188e00188f00189000189100189200189300189400189500189600189700189800189900189a00189b00189c00189d00189e00189f0018a00018a10018a20018a30018a40018a50018a60018a70018a80018a90018aa0018ab0018ac0018ad0018ae0018af0018b00018b10018b20018b30018b40018b50018b60018b70018b80018b90018ba0018bb0018bc0018bd0018be0018bf0018c00018c10018c20018c30018c40018c50018c60018c70018c80018c90018ca0018cb0018cc0018cd0018ce0018cf0018d00018d10018d20018d30018d40018d50018d60018d70018d80018d90018da0018db0018dc0018dd0018de0018df0018e00018e10018e20018e30018e40018e50018e60018e70018e80018e90018ea0018eb0018ec0018ed0018ee0018ef0018f00018f10018f20018f30018f40018f50018f60018f70018f80018f90018fa0018fb0018fc0018fd0018fe0018ff000000 | | 11 RepeatedKey at 747, read 748 | 16 KeyOrder at 747, read 748 | a key that is repeated after 256 pairs
+// .. in open maps, and with other refusals
 a3020001000200 | | 11 RepeatedKey at 5, read 6 | 16 KeyOrder at 3, read 4 | {2: 0, 1: 0, 2: 0}
 bf01000100ff | | 11 RepeatedKey at 3, read 4 | 15 Indefinite at 0, read 1 | {_ 1: 0, 1: 0}
 a201a102000100 | | 11 RepeatedKey at 5, read 6 | 16 KeyOrder at 5, read 6 | {1: {2: 0}, 1: 0}
@@ -171,10 +171,10 @@ a2a000a000 | | 11 RepeatedKey at 3, read 4 | 16 KeyOrder at 3, read 4 | {{}: 0, 
 a2c10100c10100 | | 11 RepeatedKey at 4, read 6 | 16 KeyOrder at 4, read 6 | {1(1): 0, 1(1): 0}
 a28101009f01ff00 | | 11 RepeatedKey at 4, read 7 | 15 Indefinite at 4, read 5 | {[1]: 0, [_ 1]: 0}
 a20100011f | | 11 RepeatedKey at 3, read 4 | 16 KeyOrder at 3, read 4 | before no form of an integer
-a201000161ff | | 11 RepeatedKey at 3, read 4 | 16 KeyOrder at 3, read 4 | before a text behind it
+a201000161ff | | 11 RepeatedKey at 3, read 4 | 16 KeyOrder at 3, read 4 | before a text after it
 a20100015f6100ff | | 11 RepeatedKey at 3, read 4 | 16 KeyOrder at 3, read 4 | before a chunk of another type
 a20161ff0100 | | 10 InvalidText at 3, read 4 | | the text before it
-// A byte behind the item, and canonical bytes past the limit.
+// A byte after the item, and canonical bytes past the limit.
 0000 | | 12 Trailing at 1, read 1 | taken 1 | 0, and 0
 0000 | bytes 1 | 12 Trailing at 1, read 1 | taken 1 | 0, and 0 past the limit
 00ff | | 12 Trailing at 1, read 1 | taken 1 | 0, and a break

@@ -22,7 +22,7 @@ static RUNS: &str = "
 00810118 | | 1 Truncated at 1, read 1 | 00 8101 | 0, [1], and a number that is cut off
 18641903e8 | bytes 2 | 2 TooLong at 2, read 2 | 1864 | 100 in two bytes, then 1000 in three
 9fffa05fff1801 | | | 80 a0 40 01 | [], {}, h'' in chunks, and 1 in two bytes
-01ff01 | | 7 StrayBreak at 0, read 1 | 01 | a break where an item is due, and an item behind it
+01ff01 | | 7 StrayBreak at 0, read 1 | 01 | a break where an item is due, and an item after it
 ";
 
 // Whether a result is the tree with these canonical bytes.

@@ -1,7 +1,7 @@
 -- Where the strict check is within an event: what came since the last one, and what is stored.
 use Rattle.std.specs.Prelude.{◌≡◌, ◌≢◌, ℕ, zero, suc, ◌<◌, ◌≤◌, ◌⊎◌, ◌++◌, ◌&&◌, ◌/◌, IsTrue, Bool, true, false, List, [], ◌∷◌, length, IfSome, Option, None}
 use Rattle.cbor_head.specs.Prelude.{Bounds, AreBounds, bounds, with_keys, strict}
-use Rattle.cbor_head.specs.declared.{keys.Keys.Keys, keys.Keys.TheVariants.IntegersAndTexts, reason.Refusal.Refusal}
+use Rattle.cbor_head.specs.declared.{keys.Keys.Keys, keys.Keys.TheVariants.IntegersAndTexts, reason.Reason.TheVariants.Memory, reason.Refusal.Refusal}
 use Rattle.theory_values.specs.FirstBytes.{is_basic}
 use Rattle.theory_automaton.specs.{Trace.Mark, Marks.marks_of}
 use Rattle.cbor_machine.specs.declared.step.Out.TheVariants as outs
@@ -107,6 +107,7 @@ pub record AreSound (m : MachineView) (v : OpenItems) (keys : Keys) (refusal : O
   pub somewhere : refusal ≡ None → IsSomewhere m v keys
   pub stopped : IfSome refusal (λ f. (f.read ≡ m.taken) × IsStrictReason v.order f.reason
       × (length (view_value v.keys).spans ≡ 0) × (length (view_value v.keys).bytes ≡ 0))
+  pub memory : IfSome refusal (λ f. f.reason ≡ Memory → IsTrue v.memory)
   pub limits : AreBounds (with_keys (bounds m.depth m.bytes) keys)
   pub within : m.open_count ≤ m.depth
   pub limited : m.taken ≤ m.bytes

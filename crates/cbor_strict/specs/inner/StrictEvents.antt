@@ -1,7 +1,7 @@
 -- What is reported of the item at the start of an input, event by event, by the strict rules.
-use Rattle.std.specs.Prelude.{◌≡◌, ℕ, ◌<◌, ◌≤◌, ◌++◌, List, [], length, Option, Some, None, Result, MatchResult, IfSome}
+use Rattle.std.specs.Prelude.{◌≡◌, ℕ, ◌<◌, ◌≤◌, ◌++◌, List, [], length, Option, Some, None, Result, MatchResult, IfSome, IsTrue}
 use Rattle.cbor_head.specs.Prelude.{strict, Bounds, AreBounds, bounds, with_keys}
-use Rattle.cbor_head.specs.declared.{event.Event.Event, keys.Keys.Keys, order.KeyOrder.KeyOrder, reason.Refusal.Refusal}
+use Rattle.cbor_head.specs.declared.{event.Event.Event, keys.Keys.Keys, order.KeyOrder.KeyOrder, reason.Reason.TheVariants.Memory, reason.Refusal.Refusal}
 use Rattle.theory_automaton.specs.Trace.{Mark}
 use Rattle.cbor_machine.specs.NextEvent.{ItemEventsView, StandsBetween, IsNextEvent, IsEnd, call}
 use Rattle.cbor_machine.specs.{MachineView.MachineView, Machine.IsComplete}
@@ -64,6 +64,7 @@ pub record AreWithinBounds (events : ItemEventsView) (items : OpenItems) (keys :
   pub stopped : IfSome refusal (λ f. (f.read ≡ events.machine.taken)
       × IsReaderReason (bounds_of events.machine keys) (strict items.order) f.reason
       × (length (view_value items.keys).spans ≡ 0) × (length (view_value items.keys).bytes ≡ 0))
+  pub memory : IfSome refusal (λ f. f.reason ≡ Memory → IsTrue items.memory)
   pub limits : AreBounds (bounds_of events.machine keys)
   pub within : events.machine.open_count ≤ events.machine.depth
   pub limited : events.machine.taken ≤ events.machine.bytes

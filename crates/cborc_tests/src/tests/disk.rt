@@ -3,6 +3,7 @@
 mod traced;
 
 use cborc_files::{Disk, FileFault, Folder};
+use std::alloc::Global;
 use std::io::Write;
 use std::{env, fs, io, process};
 
@@ -15,11 +16,11 @@ fn keeps_whole_files(rt: HostRuntime) -> io::Result<()> {
     let path = format!(in alloc; "{folder}/cborc-{id}")?;
     let inside = format!(in alloc; "{folder}/cborc-{id}/file")?;
     let mut disk = Disk::new(&rt);
-    assert!(rt; disk.read(alloc, path.as_str()) == Err(FileFault::Failed));
+    assert!(rt; read_whole(&mut disk, alloc, path.as_str()) == Err(FileFault::Failed));
     assert!(rt; disk.write(inside.as_str(), b"\x00") == Err(FileFault::Failed));
     for bytes in [b"\x19\x03\xe8".as_slice(), b"\x00", b""] {
         disk.write(path.as_str(), bytes).map_err(error_of)?;
-        let read = disk.read(alloc, path.as_str()).map_err(error_of)?;
+        let read = read_whole(&mut disk, alloc, path.as_str()).map_err(error_of)?;
         assert!(rt; read.as_slice() == bytes, "{bytes:?}");
     }
     fs::remove_file(&rt, path.as_str())
@@ -45,7 +46,7 @@ fn replaces_a_file_or_leaves_it(rt: HostRuntime) -> io::Result<()> {
         } else {
             let _ = disk.abandon(draft);
         }
-        let read = disk.read(alloc, path).map_err(error_of)?;
+        let read = read_whole(&mut disk, alloc, path).map_err(error_of)?;
         assert!(rt; read.len() == wanted, "{wanted}");
     }
     fs::remove_file(&rt, path)
@@ -71,6 +72,13 @@ fn reads_on_where_it_ended(rt: HostRuntime) -> io::Result<()> {
     }
     assert!(rt; bytes.as_slice() == text.as_bytes());
     fs::remove_file(&rt, path.as_str())
+}
+
+// All bytes of a file.
+fn read_whole<F: Folder>(files: &mut F, alloc: Global, path: &str) -> Result<Vec<u8>, FileFault> {
+    let mut bytes = Vec::new(alloc);
+    files.read_on(alloc, path, 0, u64::MAX, &mut bytes)?;
+    Ok(bytes)
 }
 
 fn error_of(fault: FileFault) -> io::Error {

@@ -120,6 +120,28 @@ fn notices_a_closed_pipe(rt: HostRuntime) -> io::Result<()> {
     Ok(())
 }
 
+// An output whose flush finds that the reader closed it.
+#[derive(Drop)]
+struct Unflushed;
+
+impl Write for Unflushed {
+    fn write(&mut self, bytes: &[u8]) -> io::Result<usize> {
+        Ok(bytes.len())
+    }
+
+    fn flush(&mut self) -> io::Result<()> {
+        Err(io::Error::from(ErrorKind::BrokenPipe))
+    }
+}
+
+#[test]
+fn passes_a_flush_on(rt: HostRuntime) -> io::Result<()> {
+    let mut pipe = Watched::new(Unflushed);
+    assert!(rt; pipe.write(b"a")? == 1 && !pipe.is_closed());
+    assert!(rt; pipe.flush().is_err() && pipe.is_closed());
+    Ok(())
+}
+
 // Arguments, of which one is longer than the initial space and is not UTF-8.
 struct Words;
 

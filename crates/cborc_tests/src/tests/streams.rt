@@ -16,10 +16,6 @@ struct Endless {
 impl Folder for Endless {
     type Draft = io::Sink;
 
-    fn read(&mut self, _: Global, _: &str) -> Result<Vec<u8>, FileFault> {
-        Err(FileFault::Failed)
-    }
-
     fn read_on(
         &mut self,
         _: Global,

@@ -10,9 +10,10 @@ loop-span-preserved c =
     let w = all_index _ c.args.spans.now c.loop-span.span-index no_span c.requires c.loop-span-test.true in
     let i = c.loop-span.invariant in
     let same = slice_within c.loop-span.out out s.key s.end i.1 (omega (arith, w.0, w.1)) w.2 in
-    let more = c.in_ok-extend_within.ensures ∙ ap (λ (xs : List ℕ). c.loop-span.out ++ xs) same in (
+    let more = c.in_ok-extend_within.ensures.appended ∙ ap (λ (xs : List ℕ). c.loop-span.out ++ xs) same in (
       gathered_at out c.args.spans.now c.loop-span.span-index no_span _ c.loop-span.out c.extend_within.new.self c.requires c.loop-span-test.true i.0 more,
       ap (take (length out)) more ∙ prefix_kept out c.loop-span.out _ i.1,
+      c.in_ok-extend_within.ensures.kept ∙ i.2,
     )
 
 pub extend_within-requires : goal.extend_within-requires
@@ -20,5 +21,5 @@ extend_within-requires c =
     let w = all_index _ c.args.spans.now c.loop-span.span-index no_span c.requires c.loop-span-test.true in
     record { begins = omega (arith, w.0, w.1); ends = omega (arith, w.2, length-take (length c.args.out.now) c.loop-span.out, ap length c.loop-span.invariant.1) }
 
-pub returns : goal.returns
-returns c = gathered_all c.args.out.now c.args.spans.now c.loop-span.span-index _ c.loop-span.out c.loop-span-test.false c.loop-span.invariant.0
+pub returns-clause-gathered : goal.returns-clause-gathered
+returns-clause-gathered c = gathered_all c.args.out.now c.args.spans.now c.loop-span.span-index _ c.loop-span.out c.loop-span-test.false c.loop-span.invariant.0

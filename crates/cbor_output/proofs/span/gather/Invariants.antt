@@ -7,3 +7,4 @@ abbrev pub invariant-loop-span : goal.invariant-loop-span
 invariant-loop-span l =
     (l.fn.out ++ flat_map pair_bytes (map (span_pair l.fn.out) l.spans) ≡ l.out ++ flat_map pair_bytes (map (span_pair l.fn.out) (drop l.span-index l.spans)))
     × (take (length l.fn.out) l.out ≡ l.fn.out)
+    × (l.memory ≡ l.fn.memory)

@@ -1,4 +1,4 @@
-use Rattle.std.proofs.Common.{◌∙◌, ◌+◌, Bool, length, refl, sym, ap, subst, arith}
+use Rattle.std.proofs.Common.{ℕ, ◌∷◌, ◌∙◌, ◌+◌, Bool, length, refl, sym, ap, subst, arith}
 use Rattle.std.proofs.lemmas.List.{nil_from_length, take_rest}
 use Rattle.cbor_head.specs.Prelude.{major_number}
 use Rattle.theory_values.proofs.ByteLists.{are_bytes}
@@ -7,11 +7,13 @@ use Rattle.theory_verdicts.specs.Reading.{string_major}
 use Rattle.cbor_parser.proofs.ChunkStops.{chunk_fault_here, chunk-head, chunk-text, text-chunk}
 use Rattle.cbor_parser.proofs.chunk_refusal.chunks_fault.Goals as goal
 use Rattle.cbor_parser.proofs.chunk_refusal.chunks_fault.Goals.{then-is_text, else-is_text, then-first-kind-via-then-first-kind, then-first-kind-via-else-first-kind+then-low-gt27}
+use Rattle.cbor_parser.specs.inner.Begins.{AreWholeChunks, at_break, a_chunk}
 use Rattle.cbor_parser.{specs.inner.Parts.chunked_from, proofs.Chunked.none-read, proofs.Chunked.one-read}
 
 pub chunks-init : goal.chunks-init
 chunks-init c = record {
   read = (none-read c.args.is_text c.args.behind.now (are_bytes c.args.behind.now (λ i. omega (arith, c.type_inv.behind i)))).0;
+  whole = λ h. h;
   kind = elim c.if-is_text.branch [
     | then-is_text w ↦ w.kind-is ∙ ap (λ (t : Bool). major_number (string_major t)) (sym w.if-is_text.true)
     | else-is_text w ↦ w.kind-is ∙ ap (λ (t : Bool). major_number (string_major t)) (sym w.if-is_text.false)
@@ -22,6 +24,9 @@ pub returns-in_default : goal.returns-in_default
 returns-in_default c = λ space.
     let a = c.args in
     chunks_end_here a.is_text (chunked_from a.is_text a.behind.now) c.chunks.rest.now c.chunks.invariant.read space a.at (a.at + 1 + length a.behind.now) (omega arith) c.refusal_at.result c.refusal_at.ensures (nil_from_length c.chunks.rest.now c.in_default.ensures.cases)
+
+pub returns-then-first : goal.returns-then-first
+returns-then-first c = c.chunks.invariant.whole (at_break c.chunks.rest.now c.in-Some.behind.now (c.in-Some.ensures.cases.0 ∙ ap (λ (x : ℕ). x ∷ c.in-Some.behind.now) c.if-first.true))
 
 pub returns-then-first-kind : goal.returns-then-first-kind
 returns-then-first-kind c = λ space.
@@ -68,5 +73,6 @@ chunks-preserved c =
     record {
       read = subst (AreChunksRead t (chunked_from t c.args.behind.now)) (sym (take_rest h.rest.now h.number))
           (one-read t (chunked_from t c.args.behind.now) rest s.read h.number h.rest.now (chunk-head t rest first behind split high h c.in-Some-read_argument.ensures.spelled) found.inside (λ e. found.utf8 (chunk-text t rest first behind split high e))).0;
+      whole = λ more. s.whole (a_chunk rest h.number h.rest.now (chunk-head t rest first behind split high h c.in-Some-read_argument.ensures.spelled) found.inside (λ e. found.utf8 (chunk-text t rest first behind split high e)) (subst (AreWholeChunks t) (take_rest h.rest.now h.number) more));
       kind = s.kind;
     }

@@ -6,4 +6,5 @@ abbrev pub invariant-loop : goal.invariant-loop
 invariant-loop l = record {
   left : (behind : List ℕ) → StandAtStart l.limits.depth l.items l.count behind → StandAtStart l.limits.depth l.rest (l.count - l.counter) behind;
   small : length l.rest ≤ 2 ^ 62;
+  within : length l.rest ≤ l.limits.bytes;
 }

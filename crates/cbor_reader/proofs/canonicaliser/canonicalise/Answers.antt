@@ -1,22 +1,23 @@
-use Rattle.std.proofs.lemmas.Result.{err_from_is_err_and}
+use Rattle.std.proofs.Common.{arith}
+use Rattle.cbor_reader.proofs.OnAnswers.{ok_item, err_item, ok_equal, ok_again, err_reason}
 use Rattle.cbor_reader.proofs.canonicaliser.canonicalise.Goals as goal
-use Rattle.cbor_reader.{specs.Canonicalise.at_copy, specs.Canonicalise.at_start, proofs.WholeItems.memory_at_end}
 
-pub returns-in-Owned-clause-equal : goal.returns-in-Owned-clause-equal
-returns-in-Owned-clause-equal c = rw c.in-Owned.is at c.in_ok-made.ensures.equal
+pub returns-clause-accepted : goal.returns-clause-accepted
+returns-clause-accepted c =
+    ok_item c.args.limits c.args.order c.args.bytes.now (λ v. v.items) c.canonicalise_in.result c.canonicalise_in.ensures.answer
 
-pub returns-in-Ok-clause-equal : goal.returns-in-Ok-clause-equal
-returns-in-Ok-clause-equal c = rw c.in-Ok.ensures.items (rw c.in-Borrowed.is at c.in_ok-made.ensures.equal)
+pub returns-clause-refused : goal.returns-clause-refused
+returns-clause-refused c =
+    err_item c.args.limits c.args.order c.args.bytes.now (λ v. v.items) c.canonicalise_in.result c.canonicalise_in.ensures.answer
 
-pub returns-in-Err-clause-answer : goal.returns-in-Err-clause-answer
-returns-in-Err-clause-answer c =
-    let e = c.in_ok-made.ensures.accepted in
-    memory_at_end c.args.limits c.args.order c.args.bytes.now c.at.result (e.0, e.1) c.at.ensures
+pub returns-clause-equal : goal.returns-clause-equal
+returns-clause-equal c =
+    ok_equal c.args.limits c.args.order c.args.bytes.now (λ v. v.items) c.canonicalise_in.result (omega arith) c.canonicalise_in.ensures.answer
 
-pub returns-in_err-made-clause-memory : goal.returns-in_err-made-clause-memory
-returns-in_err-made-clause-memory c =
-    let p = err_from_is_err_and c.from_residual.result c.from_residual.ensures.1 in
-    rw (p.1, p.2) (λ e. at_start (c.in_err-made.ensures.memory e))
+pub returns-clause-reason : goal.returns-clause-reason
+returns-clause-reason c =
+    err_reason c.args.limits c.args.order c.args.bytes.now (λ v. v.items) c.canonicalise_in.result c.canonicalise_in.ensures.answer
 
-pub returns-in-Err-clause-memory : goal.returns-in-Err-clause-memory
-returns-in-Err-clause-memory c = λ _. at_copy _ c.in_ok-made.ensures.answer c.at.ensures
+pub returns-clause-again : goal.returns-clause-again
+returns-clause-again c =
+    ok_again c.args.limits c.args.order c.args.bytes.now (λ v. v.items) c.canonicalise_in.result (omega arith) c.canonicalise_in.ensures.answer

@@ -4,5 +4,5 @@ use Rattle.cbor_reader.proofs.item_check.size_by_keys.Goals as goal
 
 pub returns-in-Err : goal.returns-in-Err
 returns-in-Err c =
-    let reported = reported_at_start c.args.limits c.args.bytes.now c.in-Err.refusal (c.in-Err.ensures refl) in
+    let reported = reported_at_start c.args.limits c.args.bytes.now c.in-Err.refusal c.in-Err.ensures.given in
     record { accepted = tt; refused = reported.refused; no_read = reported.no_read; memory = reported.memory }

@@ -4,7 +4,7 @@ use Rattle.cbor_reader.{specs.WholeItem.unread, specs.WholeItem.trailing, proofs
 
 pub returns-then-size-bytes-clause-refused : goal.returns-then-size-bytes-clause-refused
 returns-then-size-bytes-clause-refused c =
-    trailing c.in-Ok.size c.in-Ok.ensures.accepted.read (omega (arith, c.if-size-bytes.true)) c.at.ensures
+    trailing c.in-Ok.size c.in-Ok.ensures.accepted.read (omega (arith, c.if-size-bytes.true)) c.trailing.ensures
 
 pub returns-else-size-bytes-clause-accepted : goal.returns-else-size-bytes-clause-accepted
 returns-else-size-bytes-clause-accepted c =

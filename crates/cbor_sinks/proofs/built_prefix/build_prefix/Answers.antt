@@ -7,14 +7,18 @@ use Rattle.cbor_sinks.specs.declared.canonical_sink.CanonicalSink.{CanonicalSink
 
 pub returns-in-Ok-clause-accepted : goal.returns-in-Ok-clause-accepted
 returns-in-Ok-clause-accepted c =
-    let h = c.in-Ok.ensures in
+    let h = c.in-Ok.ensures.given in
     let v = value_of h.read.item in
     record {
       read = h.read;
       canonical_is = c.finish.ensures.bytes (canonical c.args.order v) (h.whole.1 ∙ ap (λ (o : KeyOrder). plain (canonical o v) ∷ []) (ap (λ (s : CanonicalSink). s.builder.order) c.new-building.ensures ∙ c.new.ensures.order));
     }
 
-pub returns-in-Err : goal.returns-in-Err
-returns-in-Err c =
-    let reported = reported_at_start c.args.limits c.args.bytes.now c.in-Err.refusal (c.in-Err.ensures refl) in
-    record { accepted = tt; refused = reported.refused; no_read = reported.no_read; memory = reported.memory }
+pub returns-in-Err-clause-refused : goal.returns-in-Err-clause-refused
+returns-in-Err-clause-refused c = (reported_at_start c.args.limits c.args.bytes.now c.in-Err.refusal c.in-Err.ensures.given).refused
+
+pub returns-in-Err-clause-no_read : goal.returns-in-Err-clause-no_read
+returns-in-Err-clause-no_read c = (reported_at_start c.args.limits c.args.bytes.now c.in-Err.refusal c.in-Err.ensures.given).no_read
+
+pub returns-in-Err-clause-memory : goal.returns-in-Err-clause-memory
+returns-in-Err-clause-memory c = (reported_at_start c.args.limits c.args.bytes.now c.in-Err.refusal c.in-Err.ensures.given).memory

@@ -1,9 +1,10 @@
-use Rattle.std.proofs.Common.{◌∙◌}
+use Rattle.std.proofs.Common.{◌∙◌, inl, inr}
 use Rattle.theory_verdicts.proofs.{Steps.limits-as, ItemExpected.of_reported}
 use Rattle.cbor_strict.proofs.StrictStops.{stopped_there, no_payload, at_once_there}
 use Rattle.cbor_strict.proofs.Admitted.{event_come, event_admitted, event_refused}
 use Rattle.cbor_strict.proofs.next_event.next_event.Goals as goal
-use Rattle.cbor_strict.proofs.{StrictSteps.end_reported, StrictSteps.live_of, StrictReading.by_event, StrictReading.small_piece}
+use Rattle.cbor_strict.proofs.StrictReading.{by_event, small_piece, stands_span}
+use Rattle.cbor_strict.proofs.StrictSteps.{end_reported, live_of}
 
 pub next_by_kind-requires : goal.next_by_kind-requires
 next_by_kind-requires g c =
@@ -38,11 +39,12 @@ returns-in-Err-admit-clause-answers g c = λ b t same s keeps.
 pub returns-in-Err-clause-at_once : goal.returns-in-Err-clause-at_once
 returns-in-Err-clause-at_once g c = λ t ms st.
     let r = c.requires in
-    at_once_there c.asks-is_asked.result c.args.items.now.order c.in-Err.refusal c.args.events.now c.next_by_kind.new.self _ _ t ms (c.in-Err.ensures.answers (live_of c.args.items.now r.b c.args.events.now r.t r.stands) t ms st)
+    at_once_there c.asks-is_asked.result c.args.items.now.order _ c.in-Err.refusal c.args.events.now c.next_by_kind.new.self _ _ t ms (c.in-Err.ensures.answers (live_of c.args.items.now r.b c.args.events.now r.t r.stands) t ms st)
 
 pub returns-in-Err-admit-clause-at_once : goal.returns-in-Err-admit-clause-at_once
 returns-in-Err-admit-clause-at_once g c = λ t ms st.
     let r = c.requires in
     let n = (of_reported c.asks-is_asked.result c.in-Ok-Some.field-0 c.in-Ok-Some.event _ c.in-Ok-Some.field-0-is (c.in-Ok-Some.ensures.answers (live_of c.args.items.now r.b c.args.events.now r.t r.stands) t ms st)).0 in
-    by_event c.args.items.now.order c.in-Err-admit.refusal c.in-Ok-Some.event _ n (small_piece c.in-Ok-Some.event _ _ n c.piece.ensures.piece c.piece.ensures.within)
+    by_event c.args.items.now.order _ c.in-Err-admit.refusal c.in-Ok-Some.event _ n (small_piece c.in-Ok-Some.event _ _ n c.piece.ensures.piece c.piece.ensures.within)
     (c.in-Err-admit.ensures.read ∙ c.taken-taken.ensures.taken) c.in-Err-admit.ensures.against
+    (λ is. elim (c.in-Err-admit.ensures.needed is) [ inl some ↦ inl (stands_span c.args.items.now r.b c.args.events.now r.t r.stands some) | inr h ↦ inr h ])

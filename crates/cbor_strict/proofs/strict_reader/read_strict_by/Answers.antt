@@ -6,7 +6,7 @@ use Rattle.cbor_strict.proofs.StrictLoop.{runs_first, runs_on, runs_farther, run
 use Rattle.cbor_strict.proofs.strict_reader.read_strict_by.Goals as goal
 
 pub events-init : goal.events-init
-events-init g c = runs_first c.args.order (limits_of c.args.events.now) c.restart.new.self _ c.restart.ensures.starts c.restart.ensures.order c.restart.ensures.limits
+events-init g c = runs_first c.args.order (limits_of c.args.events.now) c.restart.new.self _ c.restart.ensures.starts c.restart.ensures.order c.restart.ensures.limits c.restart.ensures.memory
 
 pub events-smaller : goal.events-smaller
 events-smaller g c =
@@ -16,7 +16,7 @@ events-smaller g c =
 pub events-preserved : goal.events-preserved
 events-preserved g c =
     let h = c.events.invariant in
-    runs_on c.args.order (limits_of c.args.events.now) c.events.events c.next.new.self (g.R.Read.remaining c.args.reader.now) (g.R.Read.remaining c.events.reader) (g.R.Read.remaining c.next.new.reader) h c.in-Ok-Some.field-0-0 (subst (λ x. IsNextStrict (Ok x) (strict_call c.events.events c.next.new.self (g.R.Read.remaining c.events.reader) (g.R.Read.remaining c.next.new.reader) h.t h.marks)) c.in-Ok-Some.field-0-is (c.in-Ok-Some.ensures.answers h.t h.marks h.stands)) c.next.ensures.limits c.next.ensures.order c.next.ensures.keys
+    runs_on c.args.order (limits_of c.args.events.now) c.events.events c.next.new.self (g.R.Read.remaining c.args.reader.now) (g.R.Read.remaining c.events.reader) (g.R.Read.remaining c.next.new.reader) h c.in-Ok-Some.field-0-0 (subst (λ x. IsNextStrict (Ok x) (strict_call c.events.events c.next.new.self (g.R.Read.remaining c.events.reader) (g.R.Read.remaining c.next.new.reader) h.t h.marks)) c.in-Ok-Some.field-0-is (c.in-Ok-Some.ensures.answers h.t h.marks h.stands)) c.next.ensures.limits c.next.ensures.order c.next.ensures.keys c.in-Ok-Some.ensures.granted
 
 pub returns-in-Ok-None-clause-limits : goal.returns-in-Ok-None-clause-limits
 returns-in-Ok-None-clause-limits g c = runs_limits c.args.order (limits_of c.args.events.now) c.events.events c.next.new.self (g.R.Read.remaining c.args.reader.now) (g.R.Read.remaining c.events.reader) (g.R.Read.remaining c.next.new.reader) c.events.invariant c.next.ensures.limits c.next.ensures.keys

@@ -8,13 +8,13 @@ use Rattle.cbor_tree_reader.proofs.{TreeValues.tree-takes, PartEnds.repeated-key
 pub next_head-requires : goal.next_head-requires
 next_head-requires g c = c.requires
 
-pub returns-in-Err : goal.returns-in-Err
-returns-in-Err g c = λ b t d. c.in-Err.ensures b t d
+pub returns-in-Err-clause-part : goal.returns-in-Err-clause-part
+returns-in-Err-clause-part g c = λ b t d. c.in-Err.ensures.expected b t d
 
 pub read_part-requires : goal.read_part-requires
 read_part-requires g c =
     let s = c.requires in
-    let n = c.in-Ok.ensures s.b s.t s.expected in
+    let n = c.in-Ok.ensures.expected s.b s.t s.expected in
     record {
       b = s.b;
       fs = map frame s.expected.ls;
@@ -24,13 +24,13 @@ read_part-requires g c =
       come = came _ _ _ _ s.expected c.next_head.new.events _ _ (g.R.Read.remaining c.next_head.new.reader) _ _ n;
     }
 
-pub returns-in-Err-read_part : goal.returns-in-Err-read_part
-returns-in-Err-read_part g c = λ b t d. refused-part _ _ _ _ d c.read_part.new.events _ _ (g.R.Read.remaining c.read_part.new.reader) _ _ (c.in-Ok.ensures b t d) c.in-Err-read_part.refusal (c.in-Err-read_part.ensures b)
+pub returns-in-Err-read_part-clause-part : goal.returns-in-Err-read_part-clause-part
+returns-in-Err-read_part-clause-part g c = λ b t d. refused-part _ _ _ _ d c.read_part.new.events _ _ (g.R.Read.remaining c.read_part.new.reader) _ _ (c.in-Ok.ensures.expected b t d) c.in-Err-read_part.refusal (c.in-Err-read_part.ensures.part b)
 
 pub give-requires-clause-bytes : goal.give-requires-clause-bytes
 give-requires-clause-bytes g c =
     let s = c.requires in
-    (part-fits _ _ _ _ s.expected c.read_part.new.events _ _ (g.R.Read.remaining c.read_part.new.reader) _ _ (c.in-Ok.ensures s.b s.t s.expected) c.in-Ok-read_part.part (c.in-Ok-read_part.ensures s.b)).0
+    (part-fits _ _ _ _ s.expected c.read_part.new.events _ _ (g.R.Read.remaining c.read_part.new.reader) _ _ (c.in-Ok.ensures.expected s.b s.t s.expected) c.in-Ok-read_part.part (c.in-Ok-read_part.ensures.part s.b)).0
 
 pub give-requires-clause-tree : goal.give-requires-clause-tree
 give-requires-clause-tree g c = let d = c.requires.expected in tree-takes c.args.items.now.tree d.ls d.tree
@@ -38,17 +38,17 @@ give-requires-clause-tree g c = let d = c.requires.expected in tree-takes c.args
 pub give-requires-clause-fits : goal.give-requires-clause-fits
 give-requires-clause-fits g c =
     let s = c.requires in
-    (part-fits _ _ _ _ s.expected c.read_part.new.events _ _ (g.R.Read.remaining c.read_part.new.reader) _ _ (c.in-Ok.ensures s.b s.t s.expected) c.in-Ok-read_part.part (c.in-Ok-read_part.ensures s.b)).1
+    (part-fits _ _ _ _ s.expected c.read_part.new.events _ _ (g.R.Read.remaining c.read_part.new.reader) _ _ (c.in-Ok.ensures.expected s.b s.t s.expected) c.in-Ok-read_part.part (c.in-Ok-read_part.ensures.part s.b)).1
 
-pub returns-in-Err-give : goal.returns-in-Err-give
-returns-in-Err-give g c = λ b t d.
-    let k = part-taken _ _ _ _ d c.read_part.new.events _ _ (g.R.Read.remaining c.read_part.new.reader) _ _ (c.in-Ok.ensures b t d) c.in-Ok-read_part.part (c.in-Ok-read_part.ensures b) in
+pub returns-in-Err-give-clause-part : goal.returns-in-Err-give-clause-part
+returns-in-Err-give-clause-part g c = λ b t d.
+    let k = part-taken _ _ _ _ d c.read_part.new.events _ _ (g.R.Read.remaining c.read_part.new.reader) _ _ (c.in-Ok.ensures.expected b t d) c.in-Ok-read_part.part (c.in-Ok-read_part.ensures.part b) in
     part-no-memory _ _ _ _ _ _ _ _ _ _ _ _ _ k c.no_memory.result c.no_memory.ensures.memory c.no_memory.ensures.place c.no_memory.ensures.taken
 
 pub end_full-requires : goal.end_full-requires
 end_full-requires g c =
     let s = c.requires in
-    let k = part-taken _ _ _ _ s.expected c.read_part.new.events _ _ (g.R.Read.remaining c.read_part.new.reader) _ _ (c.in-Ok.ensures s.b s.t s.expected) c.in-Ok-read_part.part (c.in-Ok-read_part.ensures s.b) in
+    let k = part-taken _ _ _ _ s.expected c.read_part.new.events _ _ (g.R.Read.remaining c.read_part.new.reader) _ _ (c.in-Ok.ensures.expected s.b s.t s.expected) c.in-Ok-read_part.part (c.in-Ok-read_part.ensures.part s.b) in
     let gave = c.in-Ok-give.ensures in
     record {
       b = s.b;
@@ -58,15 +58,15 @@ end_full-requires g c =
       counted = c.open-open.ensures.count;
     }
 
-pub returns-in-Err-end_full : goal.returns-in-Err-end_full
-returns-in-Err-end_full g c = λ b t d.
-    let k = part-taken _ _ _ _ d c.read_part.new.events _ _ (g.R.Read.remaining c.read_part.new.reader) _ _ (c.in-Ok.ensures b t d) c.in-Ok-read_part.part (c.in-Ok-read_part.ensures b) in
+pub returns-in-Err-end_full-clause-part : goal.returns-in-Err-end_full-clause-part
+returns-in-Err-end_full-clause-part g c = λ b t d.
+    let k = part-taken _ _ _ _ d c.read_part.new.events _ _ (g.R.Read.remaining c.read_part.new.reader) _ _ (c.in-Ok.ensures.expected b t d) c.in-Ok-read_part.part (c.in-Ok-read_part.ensures.part b) in
     let lost = c.no_memory-in-Err-end_full in
     part-no-memory _ _ _ _ _ _ _ _ _ _ _ _ _ k lost.result lost.ensures.memory lost.ensures.place lost.ensures.taken
 
-pub returns-in-Ok-None : goal.returns-in-Ok-None
-returns-in-Ok-None g c = λ b t d.
-    let k = part-taken _ _ _ _ d c.read_part.new.events _ _ (g.R.Read.remaining c.read_part.new.reader) _ _ (c.in-Ok.ensures b t d) c.in-Ok-read_part.part (c.in-Ok-read_part.ensures b) in
+pub returns-in-Ok-None-clause-part : goal.returns-in-Ok-None-clause-part
+returns-in-Ok-None-clause-part g c = λ b t d.
+    let k = part-taken _ _ _ _ d c.read_part.new.events _ _ (g.R.Read.remaining c.read_part.new.reader) _ _ (c.in-Ok.ensures.expected b t d) c.in-Ok-read_part.part (c.in-Ok-read_part.ensures.part b) in
     let gave = c.in-Ok-give.ensures in
     let ending = k.leads c.give.new.self c.open-height.result c.in-Ok.event.place c.in-Ok-give.opened c.open-height.ensures.count refl gave.starts c.give.ensures.kinds gave.given gave.tree gave.sets in
     let ended = c.in-Ok-end_full.ensures.ends b c.read_part.new.events (t ++ k.bytes) ending c.open-open.ensures.count in
@@ -80,9 +80,9 @@ returns-in-Ok-None g c = λ b t d.
           key c.open-open.ensures.count;
     }
 
-pub returns-in-Ok-Some : goal.returns-in-Ok-Some
-returns-in-Ok-Some g c = λ b t d.
-    let k = part-taken _ _ _ _ d c.read_part.new.events _ _ (g.R.Read.remaining c.read_part.new.reader) _ _ (c.in-Ok.ensures b t d) c.in-Ok-read_part.part (c.in-Ok-read_part.ensures b) in
+pub returns-in-Ok-Some-clause-part : goal.returns-in-Ok-Some-clause-part
+returns-in-Ok-Some-clause-part g c = λ b t d.
+    let k = part-taken _ _ _ _ d c.read_part.new.events _ _ (g.R.Read.remaining c.read_part.new.reader) _ _ (c.in-Ok.ensures.expected b t d) c.in-Ok-read_part.part (c.in-Ok-read_part.ensures.part b) in
     let gave = c.in-Ok-give.ensures in
     let ending = k.leads c.give.new.self c.open-height.result c.in-Ok.event.place c.in-Ok-give.opened c.open-height.ensures.count refl gave.starts c.give.ensures.kinds gave.given gave.tree gave.sets in
     let ended = c.in-Ok-end_full.ensures.ends b c.read_part.new.events (t ++ k.bytes) ending c.open-open.ensures.count in
@@ -95,8 +95,8 @@ returns-in-Ok-Some g c = λ b t d.
           reported _);
     })
 
-pub returns-in-Err-repeated : goal.returns-in-Err-repeated
-returns-in-Err-repeated g c = λ b t d.
-    let k = part-taken _ _ _ _ d c.read_part.new.events _ _ (g.R.Read.remaining c.read_part.new.reader) _ _ (c.in-Ok.ensures b t d) c.in-Ok-read_part.part (c.in-Ok-read_part.ensures b) in
+pub returns-in-Err-repeated-clause-part : goal.returns-in-Err-repeated-clause-part
+returns-in-Err-repeated-clause-part g c = λ b t d.
+    let k = part-taken _ _ _ _ d c.read_part.new.events _ _ (g.R.Read.remaining c.read_part.new.reader) _ _ (c.in-Ok.ensures.expected b t d) c.in-Ok-read_part.part (c.in-Ok-read_part.ensures.part b) in
     let lost = c.no_memory-in-Err-repeated in
     part-no-memory _ _ _ _ _ _ _ _ _ _ _ _ _ k lost.result lost.ensures.memory lost.ensures.place lost.ensures.taken

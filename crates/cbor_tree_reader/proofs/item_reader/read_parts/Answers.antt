@@ -19,21 +19,21 @@ parts-smaller g c =
     let s = c.requires in
     let h = c.parts.invariant s.b s.t s.expected in
     takes-farther c.parts.items c.next_part.new.items s.b c.parts.events c.next_part.new.events s.t _ _ _ h
-    (subst (λ m. TakesNext m c.next_part.new.items s.b c.next_part.new.events (s.t ++ h.bytes) (g.R.Read.remaining c.parts.reader) (g.R.Read.remaining c.next_part.new.reader)) c.in-Ok-true.field-0-test (c.in-Ok-true.ensures s.b (s.t ++ h.bytes) h.expected))
+    (subst (λ m. TakesNext m c.next_part.new.items s.b c.next_part.new.events (s.t ++ h.bytes) (g.R.Read.remaining c.parts.reader) (g.R.Read.remaining c.next_part.new.reader)) c.in-Ok-true.field-0-test (c.in-Ok-true.ensures.part s.b (s.t ++ h.bytes) h.expected))
 
 pub parts-preserved : goal.parts-preserved
 parts-preserved g c = λ b t d.
     let h = c.parts.invariant b t d in
     takes-on c.parts.items c.next_part.new.items b c.parts.events c.next_part.new.events t _ _ _ h
-    (subst (λ m. TakesNext m c.next_part.new.items b c.next_part.new.events (t ++ h.bytes) (g.R.Read.remaining c.parts.reader) (g.R.Read.remaining c.next_part.new.reader)) c.in-Ok-true.field-0-test (c.in-Ok-true.ensures b (t ++ h.bytes) h.expected))
+    (subst (λ m. TakesNext m c.next_part.new.items b c.next_part.new.events (t ++ h.bytes) (g.R.Read.remaining c.parts.reader) (g.R.Read.remaining c.next_part.new.reader)) c.in-Ok-true.field-0-test (c.in-Ok-true.ensures.part b (t ++ h.bytes) h.expected))
 
-pub returns-in-Ok-false : goal.returns-in-Ok-false
-returns-in-Ok-false g c = λ b t d.
+pub returns-in-Ok-false-clause-parts : goal.returns-in-Ok-false-clause-parts
+returns-in-Ok-false-clause-parts g c = λ b t d.
     let h = c.parts.invariant b t d in
     takes-all c.parts.items c.next_part.new.items b c.parts.events c.next_part.new.events t _ _ _ h
-    (subst (λ m. TakesNext m c.next_part.new.items b c.next_part.new.events (t ++ h.bytes) (g.R.Read.remaining c.parts.reader) (g.R.Read.remaining c.next_part.new.reader)) c.in-Ok-false.field-0-test (c.in-Ok-false.ensures b (t ++ h.bytes) h.expected))
+    (subst (λ m. TakesNext m c.next_part.new.items b c.next_part.new.events (t ++ h.bytes) (g.R.Read.remaining c.parts.reader) (g.R.Read.remaining c.next_part.new.reader)) c.in-Ok-false.field-0-test (c.in-Ok-false.ensures.part b (t ++ h.bytes) h.expected))
 
-pub returns-in-Err : goal.returns-in-Err
-returns-in-Err g c = λ b t d.
+pub returns-in-Err-clause-parts : goal.returns-in-Err-clause-parts
+returns-in-Err-clause-parts g c = λ b t d.
     let h = c.parts.invariant b t d in
-    stopped_from plain b c.in-Err.refusal t h.bytes _ _ _ h.consumed (c.in-Err.ensures b (t ++ h.bytes) h.expected)
+    stopped_from plain b c.in-Err.refusal t h.bytes _ _ _ h.consumed (c.in-Err.ensures.part b (t ++ h.bytes) h.expected)

@@ -1,4 +1,5 @@
-use Rattle.std.proofs.Common.{◌≡◌, length, ap, arith, true≢false, sym}
+use Rattle.std.proofs.Common.{◌≡◌, length, ap, arith, true≢false, sym, subst}
+use Rattle.theory_automaton.specs.Reasons.{IsEventReason}
 use Rattle.theory_verdicts.proofs.Steps.{stops, limits-as, reported, not-ended}
 use Rattle.theory_verdicts.proofs.Payloads.{none-come, payload-open, part-fits, part-comes, part-memory, part-cut, all-come}
 use Rattle.theory_verdicts.specs.Place.{payload}
@@ -15,14 +16,14 @@ unreachable-requires g c =
     (payload-open s.b s.chunk s.m s.fs s.t c.loop-left.left _ _ _ _ c.loop-left.events c.args.count h c.loop-left-test.true)
     (c.in-Ok-None.ensures.answers h.at.live _ h.at.marks h.at.stands)
 
-pub returns-in-Err : goal.returns-in-Err
-returns-in-Err g c = λ b chunk m fs t a.
+pub returns-in-Err-clause-payload : goal.returns-in-Err-clause-payload
+returns-in-Err-clause-payload g c = λ b chunk m fs t a.
     let h = c.loop-left.invariant b chunk m fs t a in
     part-cut b chunk m fs t c.loop-left.left _ _ _ _ c.loop-left.events c.args.count h c.loop-left-test.true _ c.in-Err.refusal
     (stops b c.loop-left.events c.next.new.self _ _ _ _ c.in-Err.refusal h.at (limits-as _ _ c.next.ensures.limits) (c.in-Err.ensures.answers h.at.live _ h.at.marks h.at.stands).1)
 
-pub returns-in-Err-extend_from_slice : goal.returns-in-Err-extend_from_slice
-returns-in-Err-extend_from_slice g c = λ b chunk m fs t a.
+pub returns-in-Err-extend-clause-payload : goal.returns-in-Err-extend-clause-payload
+returns-in-Err-extend-clause-payload g c = λ b chunk m fs t a.
     let h = c.loop-left.invariant b chunk m fs t a in
     part-memory b chunk m fs t c.loop-left.left _ _ _ _ c.loop-left.events c.args.count h c.loop-left-test.true c.in-Ok-Some.field-0-0 _ c.next.new.self (limits-as _ _ c.next.ensures.limits)
     (reported b c.loop-left.events c.next.new.self _ _ _ _ h.at c.in-Ok-Some.field-0 c.in-Ok-Some.field-0-0 c.in-Ok-Some.field-0-is (c.in-Ok-Some.ensures.answers h.at.live _ h.at.marks h.at.stands))
@@ -50,9 +51,15 @@ loop-left-preserved g c = λ b chunk m fs t a.
     rw c.piece-piece.ensures.piece
     (part-comes b chunk m fs t c.loop-left.left _ _ _ _ c.loop-left.events c.args.count h c.loop-left-test.true c.in-Ok-Some.field-0-0 _ c.next.new.self (limits-as _ _ c.next.ensures.limits)
     (reported b c.loop-left.events c.next.new.self _ _ _ _ h.at c.in-Ok-Some.field-0 c.in-Ok-Some.field-0-0 c.in-Ok-Some.field-0-is (c.in-Ok-Some.ensures.answers h.at.live _ h.at.marks h.at.stands))
-    c.extend_from_slice.new.self.items c.in-Ok-Some.ensures.live (rw (sym c.piece-piece.ensures.piece) c.in-Ok.ensures.items))
+    c.extend.new.list.items c.in-Ok-Some.ensures.live (rw (sym c.piece-piece.ensures.piece) c.in-Ok.ensures.extended))
 
-pub returns : goal.returns
-returns g c = λ b chunk m fs t a.
+pub returns-clause-payload : goal.returns-clause-payload
+returns-clause-payload g c = λ b chunk m fs t a.
     let none : c.loop-left.left ≡ 0 = omega (arith, c.loop-left-test.false) in
     (all-come b chunk m fs t c.loop-left.left _ _ _ _ c.loop-left.events c.args.count (c.loop-left.invariant b chunk m fs t a) none, λ e. absurd (true≢false (sym e)))
+
+pub returns-in-Err-clause-memory : goal.returns-in-Err-clause-memory
+returns-in-Err-clause-memory g c = λ e.
+    let s = c.requires in
+    let h = c.loop-left.invariant s.b s.chunk s.m s.fs s.t s.at in
+    absurd (subst IsEventReason e (c.in-Err.ensures.reason h.at.live))

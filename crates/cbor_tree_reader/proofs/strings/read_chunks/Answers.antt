@@ -1,6 +1,6 @@
-use Rattle.std.proofs.Common.{◌≡◌, ◌++◌, ℕ, List, Option, Some, None, Ok, true, refl}
+use Rattle.std.proofs.Common.{◌≡◌, ◌++◌, ℕ, List, Option, Some, None, Ok, true, refl, subst}
 use Rattle.cbor_head.specs.{declared.event.Event.Event, Prelude.plain, Prelude.Bounds}
-use Rattle.theory_automaton.specs.Trace.{Mark}
+use Rattle.theory_automaton.specs.{Trace.Mark, Reasons.IsEventReason}
 use Rattle.cbor_machine.specs.NextEvent.{ItemEventsView, StandsBetween, IsNext, call}
 use Rattle.cbor_machine.specs.Machine.{KeepsLimits}
 use Rattle.theory_verdicts.specs.Reading.{IsAt, IsHeadExpected, IsNextHead}
@@ -32,7 +32,7 @@ chunks-smaller g c =
     let h = c.chunks.invariant s.b s.fs s.t s.x s.w s.begun in
     let n = comes s.b (in_chunks (string_major c.args.text) s.fs) _ _ _ _ _ _ _ tt h.at c.next.ensures.limits c.in-Ok-Some.ensures.live c.in-Ok-Some.field-0-is c.in-Ok-Some.ensures.answers in
     let expected = chunk-expected plain s.b s.fs s.t s.x c.args.text c.chunks.content.items _ _ c.chunks.events h c.in-Ok-Some.event _ c.next.new.self n c.in-Chunk.count c.in-Chunk.is in
-    let reads = (c.in-Ok.ensures s.b true (string_major c.args.text) s.fs _ expected).0 in
+    let reads = (c.in-Ok.ensures.payload s.b true (string_major c.args.text) s.fs _ expected).0 in
     farther s.b c.chunks.events c.read_chunk.new.events _ _ _ _ h.at reads.at
     (chunk-farther plain s.b s.fs s.t s.x c.args.text c.chunks.content.items _ _ c.chunks.events h c.in-Ok-Some.event _ c.next.new.self n c.in-Chunk.count c.in-Chunk.is reads.bytes)
 
@@ -41,19 +41,19 @@ chunks-preserved g c = λ b fs t x w i.
     let h = c.chunks.invariant b fs t x w i in
     let n = comes b (in_chunks (string_major c.args.text) fs) _ _ _ _ _ _ _ tt h.at c.next.ensures.limits c.in-Ok-Some.ensures.live c.in-Ok-Some.field-0-is c.in-Ok-Some.ensures.answers in
     let expected = chunk-expected plain b fs t x c.args.text c.chunks.content.items _ _ c.chunks.events h c.in-Ok-Some.event _ c.next.new.self n c.in-Chunk.count c.in-Chunk.is in
-    let reads = c.in-Ok.ensures b true (string_major c.args.text) fs _ expected in
+    let reads = c.in-Ok.ensures.payload b true (string_major c.args.text) fs _ expected in
     chunk-next plain b fs t x c.args.text c.chunks.content.items _ _ c.chunks.events h c.in-Ok-Some.event _ c.next.new.self n c.in-Chunk.count c.in-Chunk.is c.read_chunk.new.into.items _ c.read_chunk.new.events reads.0 reads.1
 
-pub returns-in-Err-read_chunk : goal.returns-in-Err-read_chunk
-returns-in-Err-read_chunk g c = λ b fs t x w i.
+pub returns-in-Err-read_chunk-clause-string : goal.returns-in-Err-read_chunk-clause-string
+returns-in-Err-read_chunk-clause-string g c = λ b fs t x w i.
     let h = c.chunks.invariant b fs t x w i in
     let n = comes b (in_chunks (string_major c.args.text) fs) _ _ _ _ _ _ _ tt h.at c.next.ensures.limits c.in-Ok-Some.ensures.live c.in-Ok-Some.field-0-is c.in-Ok-Some.ensures.answers in
     let expected = chunk-expected plain b fs t x c.args.text c.chunks.content.items _ _ c.chunks.events h c.in-Ok-Some.event _ c.next.new.self n c.in-Chunk.count c.in-Chunk.is in
     stops-chunk plain b fs t x c.args.text c.chunks.content.items _ _ c.chunks.events h c.in-Ok-Some.event _ c.next.new.self n c.in-Chunk.count c.in-Chunk.is refl _ c.in-Err-read_chunk.refusal
-    (c.in-Err-read_chunk.ensures b true (string_major c.args.text) fs _ expected)
+    (c.in-Err-read_chunk.ensures.payload b true (string_major c.args.text) fs _ expected)
 
-pub returns-in-End : goal.returns-in-End
-returns-in-End g c = λ b fs t x w i.
+pub returns-in-End-clause-string : goal.returns-in-End-clause-string
+returns-in-End-clause-string g c = λ b fs t x w i.
     let h = c.chunks.invariant b fs t x w i in
     let n = comes b (in_chunks (string_major c.args.text) fs) _ _ _ _ _ _ _ tt h.at c.next.ensures.limits c.in-Ok-Some.ensures.live c.in-Ok-Some.field-0-is c.in-Ok-Some.ensures.answers in
     chunks-end plain b fs t x c.args.text c.chunks.content.items _ _ c.chunks.events h c.in-Ok-Some.event _ c.next.new.self n c.in-End.is
@@ -71,8 +71,14 @@ unreachable-requires-in_default g c =
     let n = comes s.b (in_chunks (string_major c.args.text) s.fs) _ _ _ _ _ _ _ tt h.at c.next.ensures.limits c.in-Ok-Some.ensures.live c.in-Ok-Some.field-0-is c.in-Ok-Some.ensures.answers in
     chunk-kind plain s.b s.fs s.t s.x c.args.text c.chunks.content.items _ _ c.chunks.events h c.in-Ok-Some.event _ c.next.new.self n c.in_default.not-Chunk c.in_default.not-End
 
-pub returns-in-Err : goal.returns-in-Err
-returns-in-Err g c = λ b fs t x w i.
+pub returns-in-Err-clause-string : goal.returns-in-Err-clause-string
+returns-in-Err-clause-string g c = λ b fs t x w i.
     let h = c.chunks.invariant b fs t x w i in
     stops-chunk-head plain b fs t x c.args.text c.chunks.content.items _ _ c.chunks.events h _ c.in-Err.refusal
     (stops b c.chunks.events c.next.new.self (t ++ chunks_bytes (string_major c.args.text) h.done) (in_chunks (string_major c.args.text) fs) _ _ c.in-Err.refusal h.at (limits-as _ _ c.next.ensures.limits) (c.in-Err.ensures.answers h.at.live _ h.at.marks h.at.stands).1)
+
+pub returns-in-Err-clause-memory : goal.returns-in-Err-clause-memory
+returns-in-Err-clause-memory g c = λ e.
+    let s = c.requires in
+    let h = c.chunks.invariant s.b s.fs s.t s.x s.w s.begun in
+    absurd (subst IsEventReason e (c.in-Err.ensures.reason h.at.live))

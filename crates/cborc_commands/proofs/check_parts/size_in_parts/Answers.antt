@@ -3,7 +3,7 @@ use Rattle.std.proofs.lemmas.{List.nil_from_length, Result.err_from_is_err_and, 
 use Rattle.cborc_commands.proofs.CheckedParts as checked
 use Rattle.cborc_commands.proofs.check_parts.size_in_parts.Goals as goal
 use Rattle.cborc_commands.proofs.check_parts.size_in_parts.Goals.{in-Done+else-not-is_spent, in-More+else-not-goes_on}
-use Rattle.cborc_commands.{proofs.CheckedParts.taken_to, proofs.CheckedParts.keeps_same, proofs.Files.keeps_keeps, specs.Fault.refusal_fault}
+use Rattle.cborc_commands.{proofs.CheckedParts.taken_to, proofs.Files.same_files, proofs.Files.keeps_keeps, specs.Fault.refusal_fault}
 
 -- whether a list of this length is empty
 nothing : (n : ℕ) (xs ys : List ℕ) → xs ≡ ys → n ≡ length xs → eqb n 0 ≡ true → ys ≡ []
@@ -22,7 +22,7 @@ parts-init g c = record {
     limits_are = c.new-machine.ensures.limits;
     order_is = c.new-machine.ensures.order;
   };
-  keeps = keeps_same _;
+  keeps = same_files _;
   same = refl;
 }
 

@@ -1,8 +1,9 @@
 use Rattle.std.proofs.Common.{◌≡◌, ◌≢◌, List, ap, rules, subst}
 use Rattle.clap.specs.{Words.Text, Words.kind_of, declared.error.kind.ErrorKind.TheVariants.OutOfMemory}
 use Rattle.cborc_words.specs.Words.{parsed_words, texts_of, AskFor, HasFault}
+use Rattle.cborc_commands.proofs.Files.{same_files}
 use Rattle.cborc_program.proofs.program.run.Goals as goal
-use Rattle.cborc_program.{specs.Run.answered, proofs.Ends.ends, proofs.Ends.keeps_files}
+use Rattle.cborc_program.{specs.Run.answered, proofs.Ends.ends}
 
 pub returns-in-Ok-clause-leaves : goal.returns-in-Ok-clause-leaves
 returns-in-Ok-clause-leaves g c =
@@ -14,5 +15,5 @@ returns-clause-leaves g c =
     let same : c.as_slice.result.now ≡ c.args.words.items = search rules in
     let kind = kind_of c.in-Err.error in
     let fault = subst (λ (words : List Text). kind ≢ OutOfMemory → HasFault (parsed_words words) kind) (ap texts_of same) c.in-Err.ensures.err in
-    ends _ _ c.explain_words-ended.result c.flushed.result _ _ _ _ _ _ fault c.explain_words-ended.ensures.ends c.flushed.ensures.end (keeps_files _)
+    ends _ _ c.explain_words-ended.result c.flushed.result _ _ _ _ _ _ fault c.explain_words-ended.ensures.ends c.flushed.ensures.end (same_files _)
     c.flushed.ensures.keeps c.end.ensures

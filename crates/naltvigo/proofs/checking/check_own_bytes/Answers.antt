@@ -6,7 +6,7 @@ pub returns-in-Ok-clause-refused : goal.returns-in-Ok-clause-refused
 returns-in-Ok-clause-refused c =
     followed c.args.limits c.args.order c.args.input.now
     (c.own_answers_are_strictly_accepted.ensures _ _ _ (omega arith))
-    c.in-Ok.count c.at.result c.in-Ok.ensures.accepted c.in-Ok.ensures.canonical c.if-count-input.true c.at.ensures
+    c.in-Ok.count c.trailing.result c.in-Ok.ensures.accepted c.in-Ok.ensures.canonical c.if-count-input.true c.trailing.ensures
 
 pub returns-in-Ok-2-clause-own : goal.returns-in-Ok-2-clause-own
 returns-in-Ok-2-clause-own c =

@@ -4,13 +4,13 @@ use Rattle.naltvigo.proofs.WholeInputs.{is-whole}
 
 pub returns-in-Ok-clause-refused : goal.returns-in-Ok-clause-refused
 returns-in-Ok-clause-refused c =
-    trailing c.in-Ok.size c.in-Ok.ensures.accepted c.if-size-input.true c.at.ensures
+    trailing c.in-Ok.size c.in-Ok.ensures.accepted c.if-size-input.true c.trailing.ensures
 
 pub returns-in-Ok-clause-not_accepted : goal.returns-in-Ok-clause-not_accepted
 returns-in-Ok-clause-not_accepted c =
     λ h w. h
     (c.items_and_their_refusals.ensures.either _ c.args.input.now _ w
-    (trailing c.in-Ok.size c.in-Ok.ensures.accepted c.if-size-input.true c.at.ensures))
+    (trailing c.in-Ok.size c.in-Ok.ensures.accepted c.if-size-input.true c.trailing.ensures))
 
 pub returns-in-Ok-2-clause-accepted : goal.returns-in-Ok-2-clause-accepted
 returns-in-Ok-2-clause-accepted c =

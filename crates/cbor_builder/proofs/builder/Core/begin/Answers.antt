@@ -12,5 +12,5 @@ returns-clause-given c =
     let top = c.opening-self.ensures ∙ ap (opening_frame c.args.major c.len-from.result c.len.result) (c.len-2.ensures ∙ b.spans.ok.0) in
     let around = e.around in
     (λ i. opens b.out b.spans.items (top i ∷ around i))
-    ∙ begun c.args.major c.args.n c.len-from.result c.len.result s.out b.out b.spans.items (frames s) c.len-from.ensures c.len.ensures (e.out ∙ c.in_ok-head.ensures)
+    ∙ begun c.args.major c.args.n c.len-from.result c.len.result s.out b.out b.spans.items (frames s) c.len-from.ensures c.len.ensures (e.out ∙ c.in_ok-head.ensures.appended)
     ∙ ap (λ (ss : List Span). opened c.args.major c.args.n ∷ opens s.out ss (frames s)) e.spans

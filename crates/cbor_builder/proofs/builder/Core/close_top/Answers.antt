@@ -24,4 +24,4 @@ returns-in_ok-fill_head-in-Map-clause-bytes c = λ t.
     let k = c.in_ok-order_pairs-in-Map.ensures in
     subst (λ (h : Shape). c.fill_head-in-Map.new.self ≡ take f.from s.out ++ closed s.order (shape_open s.out s.spans.items f.start h)) (sym c.in-Map.is)
     (map_sorted s.order s.out s.spans.items f.from f.start c.in-Map.first (c.len.result - c.in-Map.first) c.order_pairs.new.self.out c.fill_head-in-Map.new.self c.requires.laid.0.0 c.requires.laid.0.1
-    (ap (λ (n : ℕ). n - c.in-Map.first) (c.len.ensures ∙ s.spans.ok.0)) (k.out c.if-not-branch.false) c.in_ok-fill_head-in-Map.ensures)
+    (ap (λ (n : ℕ). n - c.in-Map.first) (c.len.ensures ∙ s.spans.ok.0)) (k.out c.if-not-branch.false) c.in_ok-fill_head-in-Map.ensures.filled)

@@ -6,8 +6,8 @@ use Rattle.cbor_builder.proofs.builder.Core.end.Goals as goal
 use Rattle.cbor_builder.{proofs.OpenMembers.member_ended, proofs.OpenMembers.member_outer, specs.inner.BuilderState.outers, specs.declared.frame.Frame.Frame}
 use Rattle.cbor_builder.proofs.{Nesting.rooted_given, Reordered.left_open}
 
-pub returns-in_ok-complete : goal.returns-in_ok-complete
-returns-in_ok-complete c =
+pub returns-in_ok-complete-clause-ends : goal.returns-in_ok-complete-clause-ends
+returns-in_ok-complete-clause-ends c =
     let s = c.args.self.now in
     let e = c.in_ok-complete.ensures in
     let k = c.in_ok-close_top.ensures in
@@ -28,8 +28,8 @@ returns-in_ok-complete c =
       left = λ e. cc;
     }
 
-pub returns-then-not-branch : goal.returns-then-not-branch
-returns-then-not-branch c =
+pub returns-then-not-branch-clause-ends : goal.returns-then-not-branch-clause-ends
+returns-then-not-branch-clause-ends c =
     let k = c.in_ok-close_top.ensures in
     let left = k.left c.if-not-branch.true in
     record { order = k.order; distinct = search rules; ended = λ t. cc; left = λ e. left_open c.args.self.now c.close_top.new.self c.requires.laid.0 k.order left.0 k.top k.around left.1 }

@@ -4,8 +4,8 @@ use Rattle.cbor_builder.proofs.builder.Core.give_up.Goals as goal
 use Rattle.cbor_builder.specs.{inner.BuilderState.outers, inner.Laid.opens, inner.Laid.Laid, declared.frame.Frame.Frame}
 use Rattle.cbor_builder.proofs.{Nesting.found_around, Reordered.left_open}
 
-pub returns : goal.returns
-returns c =
+pub returns-clause-ends : goal.returns-clause-ends
+returns-clause-ends c =
     let s = c.args.self.now in
     let n = c.give_up_pairs.new.self in
     let e = c.give_up_pairs.ensures in
@@ -23,7 +23,7 @@ returns c =
       left = λ e. cc;
     }
 
-pub returns-then-not-give_up_pairs : goal.returns-then-not-give_up_pairs
-returns-then-not-give_up_pairs c =
+pub returns-then-not-give_up_pairs-clause-ends : goal.returns-then-not-give_up_pairs-clause-ends
+returns-then-not-give_up_pairs-clause-ends c =
     let e = c.give_up_pairs.ensures in
     record { order = e.order; distinct = search rules; ended = λ t. cc; left = λ no. left_open c.args.self.now c.give_up_pairs.new.self c.requires.laid.0 e.order e.out e.top e.around (e.left c.if-not-give_up_pairs.true) }

@@ -20,7 +20,7 @@ returns-clause-out c = λ t.
     let n = c.order_spans.new.self in
     let e = c.order_spans.ensures in
     let us = take_rest c.deref.result.now c.args.first ∙ ap (drop c.args.first) c.deref.ensures.value in
-    c.in_ok-rearrange.ensures
+    c.in_ok-rearrange.ensures.ordered
     ∙ ap (λ (ts : List Span). take n.top.start n.out ++ flat_map pair_bytes (map (span_pair n.out) ts)) us
     ∙ ap (λ (out : List ℕ). take n.top.start out ++ flat_map pair_bytes (pairs_from out n.spans.items c.args.first)) e.out
     ∙ ap (λ (f : Frame). take f.start s.out ++ flat_map pair_bytes (pairs_from s.out n.spans.items c.args.first)) e.top

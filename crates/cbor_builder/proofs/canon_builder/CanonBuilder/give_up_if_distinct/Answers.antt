@@ -1,9 +1,9 @@
-use Rattle.std.proofs.Common.{◌∙◌, refl}
+use Rattle.std.proofs.Common.{◌∙◌, []}
 use Rattle.cbor_builder.proofs.canon_builder.CanonBuilder.give_up_if_distinct.Goals as goal
 use Rattle.cbor_builder.proofs.CanonStates.{reported_there}
 
 pub returns-then-not-branch : goal.returns-then-not-branch
 returns-then-not-branch c =
-    let e = c.in_ok-give_up.ensures in
+    let e = c.in_ok-give_up.ensures.ends in
     reported_there c.self.inside c.args.self.now c.give_up.new.self _ c.first_repeat.result _ _ c.self.invariant c.self.view_is c.requires.container (e.left c.if-not-branch.true) c.if-not-branch.true e.distinct c.first_repeat.ensures.reports
-    (c.first_repeat.ensures.order ∙ e.order) refl
+    (λ i. record { order = (c.first_repeat.ensures.order ∙ e.order) i; open_levels = []; refused = c.self.inside.memory })

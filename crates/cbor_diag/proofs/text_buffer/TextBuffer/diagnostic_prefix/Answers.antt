@@ -9,7 +9,7 @@ same-item e = cc e
 
 pub returns-in-Ok : goal.returns-in-Ok
 returns-in-Ok c =
-    let given = c.in-Ok.ensures in
+    let given = c.in-Ok.ensures.given in
     let item = given.read.item in
     IfOk-weaker c.finish.result _ _
     (λ shown h s v.

@@ -3,8 +3,8 @@ use Rattle.std.proofs.lemmas.List.{with_items_is}
 use Rattle.cbor_output.proofs.Written.{written}
 use Rattle.cbor_item.proofs.joined.Joined.extend_prefix.Goals as goal
 
-pub returns-in-Some : goal.returns-in-Some
-returns-in-Some c =
+pub returns-in-Some-clause-extended : goal.returns-in-Some-clause-extended
+returns-in-Some-clause-extended c =
     let v = c.self.inside.buf in
     let xs = c.deref_mut.result.now in
     let ys = c.copy_from_slice.new.self in

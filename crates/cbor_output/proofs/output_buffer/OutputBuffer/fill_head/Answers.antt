@@ -3,8 +3,8 @@ use Rattle.cbor_head.proofs.Least.{one_byte}
 use Rattle.cbor_output.proofs.output_buffer.OutputBuffer.fill_head.Goals as goal
 use Rattle.cbor_output.proofs.Written.{byte_written}
 
-pub returns-then-start-from-eq1 : goal.returns-then-start-from-eq1
-returns-then-start-from-eq1 c =
+pub returns-then-start-from-eq1-clause-filled : goal.returns-then-start-from-eq1-clause-filled
+returns-then-start-from-eq1-clause-filled c =
     let b = c.self.inside in
     let xs = b.buf.items in
     let out = c.args.self.now in

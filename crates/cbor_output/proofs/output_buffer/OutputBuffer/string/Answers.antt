@@ -2,8 +2,8 @@ use Rattle.std.proofs.Common.{List, ℕ, ◌++◌, append_assoc, take, ap, ◌�
 use Rattle.cbor_head.specs.Prelude.{shortest_head}
 use Rattle.cbor_output.proofs.output_buffer.OutputBuffer.string.Goals as goal
 
-pub returns-in-Some : goal.returns-in-Some
-returns-in-Some c =
+pub returns-in-Some-clause-appended : goal.returns-in-Some-clause-appended
+returns-in-Some-clause-appended c =
     let k = c.args.count in
     let head = shortest_head c.args.major k in
     let prefix = c.in_ok-make_space.ensures.same ∙ c.self.view_is in

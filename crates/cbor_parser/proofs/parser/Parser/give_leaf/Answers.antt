@@ -13,7 +13,7 @@ pub returns-in-Ok-clause-takes : goal.returns-in-Ok-clause-takes
 returns-in-Ok-clause-takes g c = λ d outer start input expected.
     let a = c.args in
     scalar-ends _ _ _ start d input _ a.self.now.sink a.rest.now expected a.behind.now (leaf_value a.major a.number) c.leaf.new.self (length a.rest.now - length a.behind.now) (omega (arith, head-shorter a.major a.number a.rest.now a.behind.now c.requires.head)) c.is_key.result
-    (c.is_key.ensures ∙ key-awaited (length input) expected.ls a.top.now outer expected.cells) (scalar-head a.major a.number a.rest.now a.behind.now c.requires.kind c.requires.head) c.in-Ok.ensures
+    (c.is_key.ensures ∙ key-awaited (length input) expected.ls a.top.now outer expected.cells) (scalar-head a.major a.number a.rest.now a.behind.now c.requires.kind c.requires.head) c.in-Ok.ensures.given
 
 pub returns-in-Ok-clause-prefix : goal.returns-in-Ok-clause-prefix
 returns-in-Ok-clause-prefix g c = λ d o.

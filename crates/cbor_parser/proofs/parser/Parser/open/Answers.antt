@@ -14,8 +14,8 @@ pub returns-clause-takes : goal.returns-clause-takes
 returns-clause-takes g c = λ start input expected.
     let a = c.args in
     let space : length expected.ls < a.depth = omega (arith, c.if-stack-depth.false, height-is _ _ _ _ _ _ _ _ _ expected, open_levels_count Cell a.stack.now a.cells.now c.requires.cells) in
-    subst (λ (x : List Cell). TakesTo g.row.S.Denot g.S.Sink.stands g.S.Sink.trusts g.S.Sink.holds (Head (length a.rest.now - length a.behind.now)) start a.depth input a.rest.now x c.begin.new.self) (sym c.push.ensures.levels)
-    (opened _ _ _ _ _ _ _ _ _ expected a.major a.number a.opened a.behind.now c.begin.new.self c.is_key.result (c.is_key.ensures ∙ key-awaited (length input) expected.ls a.stack.now.top (around Cell a.stack.now a.cells.now) expected.cells) space c.requires.opener c.in-Ok.ensures)
+    subst (λ (x : List Cell). TakesTo g.row.S.Denot g.S.Sink.stands g.S.Sink.trusts g.S.Sink.holds g.S.Sink.refused (Head (length a.rest.now - length a.behind.now)) start a.depth input a.rest.now x c.begin.new.self) (sym c.push.ensures.levels)
+    (opened _ _ _ _ _ _ _ _ _ expected a.major a.number a.opened a.behind.now c.begin.new.self c.is_key.result (c.is_key.ensures ∙ key-awaited (length input) expected.ls a.stack.now.top (around Cell a.stack.now a.cells.now) expected.cells) space c.requires.opener c.in-Ok.ensures.given)
 
 pub returns-clause-prefix : goal.returns-clause-prefix
 returns-clause-prefix g c =

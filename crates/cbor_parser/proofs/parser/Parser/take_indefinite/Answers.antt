@@ -2,7 +2,7 @@ use Rattle.std.proofs.Common.{◌≡◌, ℕ, [], ◌∷◌, length, sym, ap, �
 use Rattle.cbor_parser.proofs.parser.Parser.take_indefinite.Goals as goal
 use Rattle.cbor_parser.proofs.GivenItems.{array-opens, map-opens, as-used, follows}
 use Rattle.cbor_parser.specs.{inner.Parser.IsExpected, inner.Parser.HasFilled, inner.Parts.HasBroken, inner.OpenContainer.Cell, Stack.around, Stack.open_levels}
-use Rattle.cbor_parser.proofs.{GivenEnds.break-ends, parser.Parser.take_indefinite.Goals.Then-may_break}
+use Rattle.cbor_parser.proofs.{Beginnings.container-left, GivenEnds.break-ends, parser.Parser.take_indefinite.Goals.Then-may_break}
 
 pub open-requires : goal.open-requires
 open-requires g c =
@@ -39,3 +39,11 @@ returns-in-255-clause-prefix g c =
     let may = c.may_break.ensures.only c.if-may_break.true in
     let is = is-break g (goal.at.returns-in-255-clause-prefix g c).Then-may_break in
     subst (HasBroken a.stack.now.top a.rest.now) (sym (follows a.rest.now (0xff ∷ []) a.behind.now 1 is (omega (arith, ap length is)))) (record { open_ended = may.0; no_value = may.1; is = is })
+
+pub returns-in-159-clause-untaken : goal.returns-in-159-clause-untaken
+returns-in-159-clause-untaken g c = λ e low keys.
+    container-left c.args.first c.args.behind.now c.args.rest.now c.requires.begins keys c.args.depth c.open.new.stack.top c.open.new.stack.height (length c.open.new.cells) (omega (arith, c.in-159.is)) (omega (arith, c.in-159.is)) (c.open.ensures.untaken e)
+
+pub returns-in-191-clause-untaken : goal.returns-in-191-clause-untaken
+returns-in-191-clause-untaken g c = λ e low keys.
+    container-left c.args.first c.args.behind.now c.args.rest.now c.requires.begins keys c.args.depth c.open-in-191.new.stack.top c.open-in-191.new.stack.height (length c.open-in-191.new.cells) (omega (arith, c.in-191.is)) (omega (arith, c.in-191.is)) (c.open-in-191.ensures.untaken e)

@@ -28,7 +28,7 @@ string-requires g c =
 pub returns-in-Ok-clause-takes : goal.returns-in-Ok-clause-takes
 returns-in-Ok-clause-takes g c = λ d outer start input expected.
     let at = (goal.at.returns-in-Ok-clause-takes g c).In-Some in
-    scalar-ends _ _ _ start d input (c.args.top.now ∷ outer) _ c.args.rest.now expected _ _ c.string.new.self _ (used g at) c.is_key-is_key.result (c.is_key-is_key.ensures ∙ key-awaited (length input) expected.ls c.args.top.now outer expected.cells) (scalar g at) c.in-Ok.ensures
+    scalar-ends _ _ _ start d input (c.args.top.now ∷ outer) _ c.args.rest.now expected _ _ c.string.new.self _ (used g at) c.is_key-is_key.result (c.is_key-is_key.ensures ∙ key-awaited (length input) expected.ls c.args.top.now outer expected.cells) (scalar g at) c.in-Ok.ensures.given
 
 pub returns-in-Ok-clause-prefix : goal.returns-in-Ok-clause-prefix
 returns-in-Ok-clause-prefix g c = λ d o.

@@ -19,4 +19,4 @@ returns-in-Some-clause-repeats c =
 pub returns-clause-ends : goal.returns-clause-ends
 returns-clause-ends c = λ yes.
     let old = c.args.self.now in
-    ended c.args.is_map old (record { keys = c.end.new.self; views = c.end-2.new.self; joined = old.joined }) (c.in_ok-repeat.ensures.ends (ap is_some c.in_default.is)) c.in_ok-end.ensures
+    ended c.args.is_map old (record { keys = c.end.new.self; views = c.end-2.new.self; joined = old.joined }) (c.in_ok-repeat.ensures.ends (ap is_some c.in_default.is)) c.in_ok-end.ensures.closed

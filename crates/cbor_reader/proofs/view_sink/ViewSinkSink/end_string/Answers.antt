@@ -23,21 +23,21 @@ copied_text-requires c = record { takes = takes c.args.is_key c.args.self.now (w
 pub copied_bytes-requires : goal.copied_bytes-requires
 copied_bytes-requires c = record { takes = takes c.args.is_key c.args.self.now (whole-expected c.args.is_key c.args.is_text c.args.self.now c.requires.expected) }
 
-pub returns-in_ok-copied_text : goal.returns-in_ok-copied_text
-returns-in_ok-copied_text c =
+pub returns-in_ok-copied_text-clause-given : goal.returns-in_ok-copied_text-clause-given
+returns-in_ok-copied_text-clause-given c =
     let old = c.args.self.now in
     let t = c.args.is_text in
     let whole = take_all (length c.as_slice-content.result.now) c.as_slice-content.result.now (omega arith) ∙ c.as_slice-content.ensures in
     string-ended c.args.is_key t old (record { keys = c.string.new.self; views = c.copied_text.new.self; joined = old.joined })
-    (subst (λ (x : List ℕ). Gives KeyBytes keys_stand c.args.is_key (string_value t x) old.keys c.string.new.self) whole c.in_ok-string.ensures)
-    (c.in_ok-copied_text.ensures
+    (subst (λ (x : List ℕ). Gives KeyBytes keys_stand c.args.is_key (string_value t x) old.keys c.string.new.self) whole c.in_ok-string.ensures.given)
+    (c.in_ok-copied_text.ensures.given
     ∙ ap₂ (λ (b : Bool) (x : List ℕ). give (string_value b x) (open_levels old.views)) (sym c.if-is_text.true) (c.from_utf8_unchecked-text.ensures ∙ c.as_slice-content.ensures))
 
-pub returns-in_ok-copied_bytes : goal.returns-in_ok-copied_bytes
-returns-in_ok-copied_bytes c =
+pub returns-in_ok-copied_bytes-clause-given : goal.returns-in_ok-copied_bytes-clause-given
+returns-in_ok-copied_bytes-clause-given c =
     let old = c.args.self.now in
     let t = c.args.is_text in
     let whole = take_all (length c.as_slice-content.result.now) c.as_slice-content.result.now (omega arith) ∙ c.as_slice-content.ensures in
     string-ended c.args.is_key t old (record { keys = c.string.new.self; views = c.copied_bytes.new.self; joined = old.joined })
-    (subst (λ (x : List ℕ). Gives KeyBytes keys_stand c.args.is_key (string_value t x) old.keys c.string.new.self) whole c.in_ok-string.ensures)
-    (c.in_ok-copied_bytes.ensures ∙ ap₂ (λ (b : Bool) (x : List ℕ). give (string_value b x) (open_levels old.views)) (sym c.if-is_text.false) c.as_slice-content.ensures)
+    (subst (λ (x : List ℕ). Gives KeyBytes keys_stand c.args.is_key (string_value t x) old.keys c.string.new.self) whole c.in_ok-string.ensures.given)
+    (c.in_ok-copied_bytes.ensures.given ∙ ap₂ (λ (b : Bool) (x : List ℕ). give (string_value b x) (open_levels old.views)) (sym c.if-is_text.false) c.as_slice-content.ensures)

@@ -11,8 +11,8 @@ leaf-requires c = (c.requires.kind, (c.requires.simple, expected c.args.is_key c
 pub leaf-requires-2 : goal.leaf-requires-2
 leaf-requires-2 c = record { takes = takes c.args.is_key c.args.self.now c.requires.expected }
 
-pub returns : goal.returns
-returns c =
+pub returns-clause-given : goal.returns-clause-given
+returns-clause-given c =
     let old = c.args.self.now in
-    given c.args.is_key (leaf_value c.args.major c.args.number) old (record { keys = c.leaf.new.self; views = c.leaf-2.new.self; joined = old.joined }) c.in_ok-leaf.ensures
-    (c.in_ok-leaf-2.ensures ∙ ap (λ (v : Value). give v (open_levels old.views)) c.leaf_view.ensures)
+    given c.args.is_key (leaf_value c.args.major c.args.number) old (record { keys = c.leaf.new.self; views = c.leaf-2.new.self; joined = old.joined }) c.in_ok-leaf.ensures.given
+    (c.in_ok-leaf-2.ensures.given ∙ ap (λ (v : Value). give v (open_levels old.views)) c.leaf_view.ensures)

@@ -11,8 +11,8 @@ string-requires c = (c.requires.within, (c.requires.utf8, expected c.args.is_key
 pub leaf-requires : goal.leaf-requires
 leaf-requires c = record { takes = takes c.args.is_key c.args.self.now c.requires.expected }
 
-pub returns : goal.returns
-returns c =
+pub returns-clause-given : goal.returns-clause-given
+returns-clause-given c =
     let old = c.args.self.now in
     given c.args.is_key (string_value c.args.is_text (take c.args.count c.args.prefix.now)) old (record { keys = c.string.new.self; views = c.leaf.new.self; joined = old.joined })
-    c.in_ok-string.ensures (c.in_ok-leaf.ensures ∙ ap (λ (v : Value). give v (open_levels old.views)) c.string_view.ensures)
+    c.in_ok-string.ensures.given (c.in_ok-leaf.ensures.given ∙ ap (λ (v : Value). give v (open_levels old.views)) c.string_view.ensures)

@@ -1,4 +1,4 @@
-use Rattle.std.proofs.Common.{◌∙◌, [], ◌∷◌, refl, ap}
+use Rattle.std.proofs.Common.{rules, ◌∙◌, [], ◌∷◌, refl, ap}
 use Rattle.cbor_head.specs.{Prelude.canonical, Prelude.value_of, declared.order.KeyOrder.KeyOrder}
 use Rattle.theory_values.specs.Parts.{plain}
 use Rattle.cbor_parser.proofs.PrefixStops.{reported_at_start}
@@ -6,7 +6,7 @@ use Rattle.cbor_sinks.proofs.built_prefix.PrefixBuilder.build.Goals as goal
 
 pub returns-in-Ok : goal.returns-in-Ok
 returns-in-Ok c =
-    let h = c.in-Ok.ensures in
+    let h = c.in-Ok.ensures.given in
     let v = value_of h.read.item in
     record {
       accepted = record {
@@ -16,9 +16,11 @@ returns-in-Ok c =
       refused = tt;
       no_read = tt;
       memory = tt;
+      request = tt;
+      kept = refl;
     }
 
 pub returns-in-Err : goal.returns-in-Err
 returns-in-Err c =
-    let reported = reported_at_start c.args.limits c.args.bytes.now c.in-Err.refusal (c.in-Err.ensures refl) in
-    record { accepted = tt; refused = reported.refused; no_read = reported.no_read; memory = reported.memory }
+    let reported = reported_at_start c.args.limits c.args.bytes.now c.in-Err.refusal c.in-Err.ensures.given in
+    record { accepted = tt; refused = reported.refused; no_read = reported.no_read; memory = reported.memory; request = search rules; kept = tt }

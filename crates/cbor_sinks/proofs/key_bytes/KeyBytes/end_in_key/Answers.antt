@@ -18,7 +18,7 @@ settle-requires c = λ none.
 pub returns-in-Some-clause-repeats : goal.returns-in-Some-clause-repeats
 returns-in-Some-clause-repeats c =
     let old = c.args.self.now in
-    keys-repeat old c.in-Some.repeat (subst (λ reported. IfSome reported (λ repeat. IsRepeatReported old.builder.open_levels repeat.outside repeat.pair)) c.in-Some.is c.in_ok-repeat.ensures.reported) c.args.is_map
+    keys-repeat old c.in-Some.repeat (subst (λ reported. IfSome reported (λ repeat. IsRepeatReported old.builder.open_levels repeat.outside repeat.pair)) c.in-Some.is c.in_ok-repeat.ensures.reported) (λ x. cc (sym (c.in_ok-repeat.ensures.distinct.1 x) ∙ ap is_some c.in-Some.is)) c.args.is_map (inl c.requires.inside)
 
 pub returns-clause-ends : goal.returns-clause-ends
 returns-clause-ends c = λ yes.
@@ -27,5 +27,5 @@ returns-clause-ends c = λ yes.
     let some : suc c.settle.new.self.inside ≡ old.inside = omega (arith, c.requires.inside, stays) in
     let none = ap is_some c.in_default.is in
     ended-inner c.args.is_map old c.settle.new.self some (c.in_ok-repeat.ensures.distinct.0 none)
-    (c.in_ok-settle.ensures.builder ∙ ap (λ (x : Built). built x.order (behind_item (old.inside - 1) x.open_levels)) (c.in_ok-repeat.ensures.ended none)
+    (c.in_ok-settle.ensures.builder (ap (λ (x : Built). x.refused) (c.in_ok-repeat.ensures.ended none)) ∙ ap (λ (x : Built). built x.order (behind_item (old.inside - 1) x.open_levels)) (c.in_ok-repeat.ensures.ended none)
     ∙ ap (λ (n : ℕ). built old.builder.order (behind_item n (close old.builder.order old.builder.open_levels))) (sym stays))

@@ -1,5 +1,5 @@
-use Rattle.std.proofs.Common.{◌≡◌, ◌++◌, Option, refl, sym, subst, take}
-use Rattle.cbor_head.specs.declared.reason.Refusal.{Refusal}
+use Rattle.std.proofs.Common.{◌≡◌, ◌++◌, Option, refl, sym, subst, take, IsTrue}
+use Rattle.cbor_head.specs.declared.reason.{Reason.TheVariants.Memory, Refusal.Refusal}
 use Rattle.cbor_machine.specs.{Machine.KeepsLimits, Machine.IfRefused, declared.step.Out.Out}
 use Rattle.cbor_strict.specs.inner.StrictEvents.{bounds_of}
 use Rattle.cbor_stream.specs.StrictMachine.{StrictMachineView, StandsAmid, IsStrictAnswer}
@@ -33,6 +33,7 @@ invariant_of-self-2 c =
     let s = c.next_step-step in
     let r = subst (λ (o : Out). IfRefused o (λ f. (s.new.machine.taken ≡ f.read) × IsStrictReason c.self.inside.items.order f.reason)) c.in-Refused.is s.ensures.refused in
     sound_refused c.self.inside.machine s.new.machine c.self.inside.items s.new.items c.self.inside.keys s.ensures.limits c.self.invariant.limits c.in-Refused.refusal c.forget.new.self s.ensures.order r.0 r.1 c.forget.ensures
+    (subst (λ (o : Out). IfRefused o (λ f. f.reason ≡ Memory → IsTrue s.new.items.memory)) c.in-Refused.is s.ensures.memory)
 
 pub returns-clause-answers : goal.returns-clause-answers
 returns-clause-answers c = λ t ms h.

@@ -1,6 +1,7 @@
-use Rattle.std.proofs.Common.{◌++◌, subst}
+use Rattle.std.proofs.Common.{◌++◌, subst, inr}
+use Rattle.std.proofs.lemmas.Result.{IfErr-weaker}
 use Rattle.cbor_head.specs.Prelude.{strict}
-use Rattle.cbor_strict.proofs.OpenHeads.{refused_head, begun_in, begun_no_memory, begun_kept, head_comes}
+use Rattle.cbor_strict.proofs.OpenHeads.{refused_head, begun_in, begun_no_memory, begun_kept, head_comes, map_head}
 use Rattle.cbor_strict.proofs.open_items.OpenItems.admit_head.Goals as goal
 use Rattle.cbor_strict.specs.inner.OpenItems.{Answers}
 
@@ -40,3 +41,6 @@ returns-in-Ok-clause-answers c = λ b t x e h n m.
     subst (λ o. Answers (strict o) c.begin.new.self b e (t ++ x) c.begin.result) c.keep_head.ensures.same.order
     (c.begin.ensures.answers b c.args.event.now.width c.args.event.now.kind t x e is
     (begun_kept c.args.self.now c.keep_head.new.self b c.args.event.now c.in-Some.major c.in-Some.argument t x e is h c.in-None.ensures c.keep_head.ensures.same.order c.keep_head.ensures.same.left c.in-Ok.ensures.kept) n m)
+
+pub returns-in-Ok-clause-needed : goal.returns-in-Ok-clause-needed
+returns-in-Ok-clause-needed c = IfErr-weaker c.begin.result _ _ (λ f needed is. inr (map_head c.args.event.now.kind c.args.event.now.width c.in-Some.major c.in-Some.argument (c.in-Some.ensures c.args.event.now.width).0 (needed is))) c.begin.ensures.needed

@@ -9,7 +9,7 @@ pub returns-in-Err-clause-answers : goal.returns-in-Err-clause-answers
 returns-in-Err-clause-answers c = λ b old t e h n m to. part_no_memory c.args.self.now b old t c.args.piece.now e h _ c.args.taken to m c.at.ensures
 
 pub returns-then-self-gt0-clause-answers : goal.returns-then-self-gt0-clause-answers
-returns-then-self-gt0-clause-answers c = λ b old t e h n m. part_goes_on c.args.self.now b old t c.args.piece.now e h c.take_part.new.self c.keep.new.self c.take_part.ensures.same.0 c.take_part.ensures.same.1 c.take_part.ensures.text c.take_part.ensures.left c.in-Ok.ensures c.if-self-gt0.true c.take_part.ensures.checked
+returns-then-self-gt0-clause-answers c = λ b old t e h n m. part_goes_on c.args.self.now b old t c.args.piece.now e h c.take_part.new.self c.keep.new.self c.take_part.ensures.same.0 c.take_part.ensures.same.1 c.take_part.ensures.text c.take_part.ensures.left c.in-Ok.ensures.kept c.if-self-gt0.true c.take_part.ensures.checked
 
 pub end_item-requires : goal.end_item-requires
 end_item-requires c =
@@ -20,7 +20,7 @@ end_item-requires c =
       b = r.b;
       e = r.e;
       t = _;
-      ended = part_ends c.args.self.now r.b r.old r.t c.args.piece.now r.e r.come c.take_part.new.self c.keep.new.self c.take_part.ensures.same.0 c.take_part.ensures.same.1 c.take_part.ensures.text c.take_part.ensures.left c.in-Ok.ensures none (λ y. c.in-Ok-text_end.ensures (h.expected.q ++ c.args.piece.now) (λ y. c.take_part.ensures.checked h.expected.q (sym c.take_part.ensures.text ∙ y) (h.expected.checked (sym c.take_part.ensures.text ∙ y))) (c.take_part.ensures.text ∙ y));
+      ended = part_ends c.args.self.now r.b r.old r.t c.args.piece.now r.e r.come c.take_part.new.self c.keep.new.self c.take_part.ensures.same.0 c.take_part.ensures.same.1 c.take_part.ensures.text c.take_part.ensures.left c.in-Ok.ensures.kept none (λ y. c.in-Ok-text_end.ensures (h.expected.q ++ c.args.piece.now) (λ y. c.take_part.ensures.checked h.expected.q (sym c.take_part.ensures.text ∙ y) (h.expected.checked (sym c.take_part.ensures.text ∙ y))) (c.take_part.ensures.text ∙ y));
       counted = r.counted;
       all = r.all;
     }
@@ -29,7 +29,7 @@ pub returns-in-Ok-text_end-clause-answers : goal.returns-in-Ok-text_end-clause-a
 returns-in-Ok-text_end-clause-answers c = λ b old t e h n m.
     let none : c.take_part.new.self.left ≡ 0 = omega (arith, c.if-self-gt0.false) in
     subst (λ o. Answers (strict o) c.end_item.new.self b e (t ++ c.args.piece.now) c.end_item.result) c.take_part.ensures.same.0
-    (c.end_item.ensures.answers b e _ (part_ends c.args.self.now b old t c.args.piece.now e h c.take_part.new.self c.keep.new.self c.take_part.ensures.same.0 c.take_part.ensures.same.1 c.take_part.ensures.text c.take_part.ensures.left c.in-Ok.ensures none (λ y. c.in-Ok-text_end.ensures (h.expected.q ++ c.args.piece.now) (λ y. c.take_part.ensures.checked h.expected.q (sym c.take_part.ensures.text ∙ y) (h.expected.checked (sym c.take_part.ensures.text ∙ y))) (c.take_part.ensures.text ∙ y))) n m)
+    (c.end_item.ensures.answers b e _ (part_ends c.args.self.now b old t c.args.piece.now e h c.take_part.new.self c.keep.new.self c.take_part.ensures.same.0 c.take_part.ensures.same.1 c.take_part.ensures.text c.take_part.ensures.left c.in-Ok.ensures.kept none (λ y. c.in-Ok-text_end.ensures (h.expected.q ++ c.args.piece.now) (λ y. c.take_part.ensures.checked h.expected.q (sym c.take_part.ensures.text ∙ y) (h.expected.checked (sym c.take_part.ensures.text ∙ y))) (c.take_part.ensures.text ∙ y))) n m)
 
 pub overflow_sub-behind : goal.overflow_sub-behind
 overflow_sub-behind c =
@@ -46,4 +46,4 @@ returns-in-Err-text_end-clause-answers c = λ b old t e h n m to.
     let z = c.in-Err-text_end.ensures q (λ y. c.take_part.ensures.checked h.expected.q (sym c.take_part.ensures.text ∙ y) (h.expected.checked (sym c.take_part.ensures.text ∙ y))) in
     let checked = c.take_part.ensures.checked h.expected.q (sym c.take_part.ensures.text ∙ z.0) (h.expected.checked (sym c.take_part.ensures.text ∙ z.0)) in
     let space = part_space c.args.self.now b old t c.args.piece.now e h c.args.taken m in
-    part_no_text c.args.self.now b old t c.args.piece.now e h c.take_part.new.self c.keep.new.self c.take_part.ensures.same.0 c.take_part.ensures.same.1 c.take_part.ensures.text c.take_part.ensures.left c.in-Ok.ensures _ c.args.taken _ to none (sym c.take_part.ensures.text ∙ z.0) z.1 m (omega (arith, z.2, utf8_valid_len_le q, checked.pushed, c.pushed.ensures, space)) c.new.ensures
+    part_no_text c.args.self.now b old t c.args.piece.now e h c.take_part.new.self c.keep.new.self c.take_part.ensures.same.0 c.take_part.ensures.same.1 c.take_part.ensures.text c.take_part.ensures.left c.in-Ok.ensures.kept _ c.args.taken _ to none (sym c.take_part.ensures.text ∙ z.0) z.1 m (omega (arith, z.2, utf8_valid_len_le q, checked.pushed, c.pushed.ensures, space)) c.new.ensures

@@ -35,7 +35,7 @@ open_map-requires-clause-keys c =
     space_keys c.args.self.now r.b r.w r.kind r.t r.x r.e r.has (inr (map_of r.w r.kind c.args.major c.args.argument r.is c.in-Map.is (c.goes_on.ensures.more c.if-not-goes_on.false)))
 
 pub returns-in-Ok-clause-answers : goal.returns-in-Ok-clause-answers
-returns-in-Ok-clause-answers c = λ b w kind t x e is h n m. map_begun c.args.self.now _ b w kind t x e h (map_of w kind c.args.major c.args.argument is c.in-Map.is (c.goes_on.ensures.more c.if-not-goes_on.false)) refl refl c.in-Ok.ensures
+returns-in-Ok-clause-answers c = λ b w kind t x e is h n m. map_begun c.args.self.now _ b w kind t x e h (map_of w kind c.args.major c.args.argument is c.in-Map.is (c.goes_on.ensures.more c.if-not-goes_on.false)) refl refl c.in-Ok.ensures.opened
 
 pub returns-in-Err-clause-answers : goal.returns-in-Err-clause-answers
 returns-in-Err-clause-answers c = λ b w kind t x e is h n m to. begun_no_memory c.args.self.now b w kind t x e _ c.args.taken to h.fs h.around h.taken h.begun m c.at.ensures
@@ -55,4 +55,7 @@ returns-in_default c =
           other_begun c.args.self.now _ b w kind t x e h (other_of w kind c.args.major c.args.argument is (c.goes_on.ensures.more c.if-not-goes_on.false) o.not-Bytes o.not-Text o.not-Map) refl refl c.open_other.ensures;
       against = tt;
       read = tt;
+      memory = tt;
+      needed = tt;
+      granted = refl;
     }

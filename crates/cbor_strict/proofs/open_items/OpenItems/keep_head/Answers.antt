@@ -8,4 +8,4 @@ returns-then-not-is_inside-clause-kept c = λ fs h. keeps_none (view_value c.arg
 
 pub returns-then-argument-lt24-clause-kept : goal.returns-then-argument-lt24-clause-kept
 returns-then-argument-lt24-clause-kept c = λ fs h.
-    subst (λ bs. OnOk c.keep.result (IsKept (view_value c.keep.new.self) fs bs)) (one_byte c.args.major c.args.argument c.number.result c.if-argument-lt24.true c.number.ensures.number) (c.keep.ensures fs [] h)
+    subst (λ bs. OnOk c.keep.result (IsKept (view_value c.keep.new.self) fs bs)) (one_byte c.args.major c.args.argument c.number.result c.if-argument-lt24.true c.number.ensures.number) (c.keep.ensures.kept fs [] h)

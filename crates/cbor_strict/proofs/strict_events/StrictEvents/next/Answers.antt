@@ -16,7 +16,7 @@ invariant_of-self g c = within_next c.self.inside.events c.next_event.new.events
 
 pub invariant_of-self-in-Err : goal.invariant_of-self-in-Err
 invariant_of-self-in-Err g c =
-    within_stopped c.self.inside.events c.next_event.new.events c.self.inside.items c.next_event.new.items c.self.inside.keys _ _ c.in-Err.ensures.limits c.in-Err.refusal c.self.inside.refusal c.forget.new.self c.in-None.is c.self.invariant c.in-Err.ensures.answers c.in-Err.ensures.order c.in-Err.ensures.taken c.forget.ensures
+    within_stopped c.self.inside.events c.next_event.new.events c.self.inside.items c.next_event.new.items c.self.inside.keys _ _ c.in-Err.ensures.limits c.in-Err.refusal c.self.inside.refusal c.forget.new.self c.in-None.is c.self.invariant c.in-Err.ensures.answers c.in-Err.ensures.order c.in-Err.ensures.taken c.forget.ensures c.in-Err.ensures.memory
 
 pub returns-in-Ok-clause-answers : goal.returns-in-Ok-clause-answers
 returns-in-Ok-clause-answers g c = λ t ms h.

@@ -1,5 +1,6 @@
 use Rattle.std.proofs.Common.{◌≡◌, ◌∙◌, List, subst, sym, arith}
-use Rattle.cbor_item.specs.OpenValues.{OpenItem, close, open_levels}
+use Rattle.cbor_item.specs.OpenValues.{Building, close, open_levels}
+use Rattle.cbor_item.specs.declared.item.Item.{Item}
 use Rattle.cbor_tree_reader.proofs.PartEnds.{ends-next, ends-in-tree, ends-one, ends-all}
 use Rattle.cbor_tree_reader.proofs.tree_items.TreeItems.end_full.Goals as goal
 
@@ -26,8 +27,11 @@ full-preserved c = (
   c.end_keys.ensures.same.1 ∙ c.full.invariant.0,
   λ b e t h counted.
       let k = c.full.invariant.1 b e t h counted in
-      ends-one c.full.self b e t c.full.left k (omega (arith, counted, c.full-test.true)) _ (c.end_keys.ensures.same.0 ∙ c.in_ok-end.ensures.given) c.end_keys.ensures.same.1 c.end_keys.ensures.same.3
-      (subst (λ (os : List OpenItem). open_levels os ≡ close (open_levels c.full.self.tree)) (sym c.end_keys.ensures.same.2) c.in_ok-end-2.ensures) c.end_keys.ensures.sets,
+      let given = rw (sym c.in_ok-noted.ensures.same) at c.end.ensures.given in
+      let closed = rw (sym c.in_ok-noted-2.ensures.same) at c.end-in-full.ensures.closed in
+      ends-one c.full.self b e t c.full.left k (omega (arith, counted, c.full-test.true)) _ (c.end_keys.ensures.same.0 ∙ given) c.end_keys.ensures.same.1 c.end_keys.ensures.same.3
+      (subst (λ (os : Building Item). open_levels os ≡ close (open_levels c.full.self.tree)) (sym c.end_keys.ensures.same.2) closed) c.end_keys.ensures.sets,
+  c.in_ok-noted-2.ensures.kept ∙ c.in_ok-noted.ensures.kept ∙ c.full.invariant.2,
 )
 
 pub returns-clause-ends : goal.returns-clause-ends

@@ -8,6 +8,7 @@ abbrev pub invariant-full : goal.invariant-full
 invariant-full l = (l.self.starts ≡ l.fn.self.starts)
     × ((b : Bounds) (e : ItemEventsView) (t : List ℕ) → IsEndingAt l.fn.self b e t l.fn.height → l.fn.«open» ≡ e.machine.open_count
     → IsEndingAt l.self b e t l.left)
+    × (l.memory ≡ l.fn.memory)
 
 abbrev pub decreases-full : goal.decreases-full
 decreases-full l = l.left

@@ -1,6 +1,6 @@
-use Rattle.std.proofs.Common.{◌∙◌, map, refl, sym, subst}
+use Rattle.std.proofs.Common.{◌∙◌, map, refl, sym, subst, inl, inr}
 use Rattle.cbor_head.specs.Prelude.{plain}
-use Rattle.cbor_machine.proofs.Positions.{no-payload}
+use Rattle.cbor_machine.{specs.NextKey.IsKeyReason, proofs.Positions.no-payload}
 use Rattle.cbor_builder.specs.Built.{IsKeyExpected}
 use Rattle.theory_verdicts.proofs.ItemExpected.{of_reported, of_end, stopped-expected}
 use Rattle.theory_verdicts.{specs.Levels.frame, specs.Place.at_item, proofs.ParseState.is-done, proofs.Steps.next-head, proofs.Steps.limits-as}
@@ -19,8 +19,8 @@ unreachable-requires g c =
     let ended = of_end c.asks.result c.in-Ok-None.field-0 _ c.in-Ok-None.field-0-is (c.in-Ok-None.ensures.answers a.live s.t a.marks a.stands) in
     cc (is-done s.b c.args.events.now s.t (at_item (map frame s.expected.ls)) a ended.complete)
 
-pub returns-in-Ok-Some : goal.returns-in-Ok-Some
-returns-in-Ok-Some g c = λ b t d.
+pub returns-in-Ok-Some-clause-expected : goal.returns-in-Ok-Some-clause-expected
+returns-in-Ok-Some-clause-expected g c = λ b t d.
     let a = d.at in
     let h = of_reported c.asks.result c.in-Ok-Some.field-0 c.in-Ok-Some.event _ c.in-Ok-Some.field-0-is (c.in-Ok-Some.ensures.answers a.live t a.marks a.stands) in
     record {
@@ -28,10 +28,13 @@ returns-in-Ok-Some g c = λ b t d.
       kind = λ asked is_key. h.1 (c.asks.ensures.1 (d.kinds ∙ asked.1, subst IsKeyExpected (sym d.open_levels) ((expected-opens c.args.self.now.builder.order d.ls).0 is_key)));
     }
 
-pub returns-in-Err : goal.returns-in-Err
-returns-in-Err g c = λ b t d.
+pub returns-in-Err-clause-expected : goal.returns-in-Err-clause-expected
+returns-in-Err-clause-expected g c = λ b t d.
     let a = d.at in
     (stopped-expected plain b t (map frame d.ls) (expects c.args.self.now b c.args.events.now t d) c.args.events.now c.next_by_kind.new.self _ _ c.asks.result c.in-Err.refusal a (limits-as _ _ c.next_by_kind.ensures.limits) c.in-Err.ensures.refused.1 c.next_by_kind.ensures.limits.taken
     (λ r. let k = c.asks.ensures.0 r in ((refl, sym d.kinds ∙ k.0), (expected-opens c.args.self.now.builder.order d.ls).1 (subst IsKeyExpected d.open_levels k.1)))
     (λ asked is_key. c.asks.ensures.1 (d.kinds ∙ asked.1, subst IsKeyExpected (sym d.open_levels) ((expected-opens c.args.self.now.builder.order d.ls).0 is_key)))
     (c.in-Err.ensures.answers a.live t a.marks a.stands)).1
+
+pub returns-in-Err-clause-reason : goal.returns-in-Err-clause-reason
+returns-in-Err-clause-reason g c = λ e. elim (subst IsKeyReason e c.in-Err.ensures.refused.2) [ inl x ↦ x | inr kind ↦ cc kind ]

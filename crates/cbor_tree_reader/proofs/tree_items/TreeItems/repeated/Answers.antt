@@ -13,7 +13,7 @@ returns-then-branch-clause-answers c = λ h.
     let ss = reverse s.outer.items in
     let os = s.builder.open_levels in
     fresh-key s.keys c.add.new.self ss os c.in-Some.key.now c.in-Some.ensures h
-    (subst (IsAdded c.in-Some.key.now (keys_at_top os) c.add.new.self) c.if-branch.true (c.in_ok-add.ensures (keys_at_top os) (top-held s.keys ss os h)))
+    (subst (IsAdded c.in-Some.key.now (keys_at_top os) c.add.new.self) c.if-branch.true (c.in_ok-add.ensures.added (keys_at_top os) (top-held s.keys ss os h)))
 
 pub returns-clause-answers : goal.returns-clause-answers
 returns-clause-answers c = λ h.
@@ -21,7 +21,7 @@ returns-clause-answers c = λ h.
     let ss = reverse s.outer.items in
     let os = s.builder.open_levels in (
       old-key os c.in-Some.key.now c.add.new.self c.in-Some.ensures
-          (subst (IsAdded c.in-Some.key.now (keys_at_top os) c.add.new.self) c.if-branch.false (c.in_ok-add.ensures (keys_at_top os) (top-held s.keys ss os h))),
+          (subst (IsAdded c.in-Some.key.now (keys_at_top os) c.add.new.self) c.if-branch.false (c.in_ok-add.ensures.added (keys_at_top os) (top-held s.keys ss os h))),
       (λ at is.
           c.unwrap_or.ensures ∙ ap (λ (o : Option ℕ). unwrap_or o 0) c.copied.ensures ∙ c.get.ensures.lookup.4 (omega arith) 0
           ∙ get_or_from_slice_get c.deref.result.now c.args.open at 0 (ap (λ (xs : List ℕ). slice_get xs c.args.open) c.deref.ensures.value ∙ is)),

@@ -1,6 +1,6 @@
 use Rattle.std.proofs.Common.{◌≡◌, rules, true}
+use Rattle.cbor_text.specs.Hidden.{is_hidden}
 use Rattle.cborc_files.proofs.visible.VisibleCharacterDisplay.fmt.Goals as goal
-use Rattle.cborc_files.specs.Visible.{is_hidden}
 
 pub returns-then-is_hidden-clause-writes : goal.returns-then-is_hidden-clause-writes
 returns-then-is_hidden-clause-writes g c plain ok =
