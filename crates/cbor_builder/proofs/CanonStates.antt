@@ -1,11 +1,10 @@
 -- What a public builder represents, from what its core does.
 use Rattle.std.proofs.Common.{◌≡◌, ℕ, Bool, true, false, List, [], ◌∷◌, Option, Some, None, true≢false, refl, sym, ap, ◌∙◌, subst, IsTrue, IfSome, IsNone, ◌↔◌, Ok}
 use Rattle.theory_values.specs.Parts.{Open, plain, a_map, HasNoRepeats, IsInContainer}
-use Rattle.cbor_output.specs.declared.span.Span.{Span}
 use Rattle.cbor_builder.specs.Built.{Built, built, HasDistinctKeysSoFar, IsRepeatReported, LeavesIfDistinct, keys_so_far, AreAllDifferent}
 use Rattle.cbor_builder.specs.inner.BuilderState.{open_levels, innermost, IsLaid, WasLaid, IsLeftOpen, came_open_levels}
 use Rattle.cbor_builder.specs.inner.CanonState.{if_sound, view_value, IsNested, IsKept}
-use Rattle.cbor_builder.specs.{declared.builder.Core.Core, declared.repeat.Repeat.Repeat, inner.Repeats.Reports}
+use Rattle.cbor_builder.specs.{declared.span.Span.Span, declared.builder.Core.Core, declared.repeat.Repeat.Repeat, inner.Repeats.Reports}
 use Rattle.cbor_builder.{specs.declared.canon_builder.CanonBuilder.TheInside.Inside, proofs.KeysSoFar.different_distinct, proofs.OpenMembers.whole_item}
 
 -- ---- a builder that accepts a part has not failed

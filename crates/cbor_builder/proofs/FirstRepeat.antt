@@ -5,12 +5,11 @@ use mir.Val.{bool_byte}
 use Rattle.std.proofs.lemmas.List.Sorted.{IsPermutation-sym, IsPermutation-trans, sum_by-IsPermutation}
 use Rattle.std.proofs.lemmas.{Bool.cases_lt, Bool.cases_eq, List.get_or-map, List.length-map, List.Sums.sum_by-cons}
 use Rattle.theory_values.proofs.Members.{all_at, all_from}
-use Rattle.cbor_output.specs.Spans.{no_span, IsWithin, AreWithin}
-use Rattle.cbor_output.specs.declared.span.Span.{Span}
+use Rattle.cbor_builder.specs.inner.Spans.{no_span, IsWithin, AreWithin}
 use Rattle.cbor_builder.specs.Built.{IsRepeatAt, AreAllDifferent, IsFirstRepeat}
 use Rattle.cbor_builder.specs.inner.Repeats.{nth, place, lies_before, HasPlace, ArePlaced, AreOf, HasTie, IsFirstTie}
-use Rattle.cbor_builder.{specs.inner.Prefix.key_of, specs.inner.Laid.Tile, specs.declared.repeats.Tie.Tie, proofs.Growth.tile_within, proofs.Ranks.all_permuted}
-use Rattle.cbor_builder.proofs.Ties.{tie_permuted, first_same}
+use Rattle.cbor_builder.specs.{declared.span.Span.Span, inner.Prefix.key_of, inner.Laid.Tile, declared.repeats.Tie.Tie}
+use Rattle.cbor_builder.proofs.{Growth.tile_within, Ranks.all_permuted, Ties.tie_permuted, Ties.first_same}
 
 -- ---- the places of pairs one after another
 

@@ -6,11 +6,11 @@ use Rattle.cbor_head.specs.declared.major.Major.TheVariants as of_major
 use Rattle.cbor_head.specs.{declared.major.Major.Major, Prelude.in_order, Prelude.shortest_head, declared.order.KeyOrder.KeyOrder}
 use Rattle.theory_values.specs.Parts.{plain, an_array, a_map, a_key, a_string, pair, with_member, with_content, give, opened, extended, close, closed}
 use Rattle.theory_values.specs.{Pairs.IsRising, Pairs.pair_bytes, KeyPrefix.prefix_of}
-use Rattle.cbor_output.{proofs.Written.take_prefix, proofs.Written.drop_prefix, specs.Spans.span_pair, specs.Spans.AreWithin, specs.declared.span.Span.Span}
-use Rattle.cbor_output.proofs.Slices.{slice_all, slice_prefix}
 use Rattle.cbor_builder.specs.inner.Laid.{pairs_from, Tile, shape_open, outer_spans, opens, Fits, Laid, Takes, IsString, IsReady, shape_after, span, spans_after, KeepsRising, Stands, Completed, opening_frame}
 use Rattle.cbor_builder.specs.declared.frame.Shape.TheVariants.{Plain, Array, Map, Key, Content}
-use Rattle.cbor_builder.specs.{inner.Prefix.ArePrefixed, declared.frame.Frame.Frame, declared.frame.Shape.Shape}
+use Rattle.cbor_builder.{proofs.Written.take_prefix, proofs.Written.drop_prefix, specs.inner.Spans.span_pair, specs.inner.Spans.AreWithin}
+use Rattle.cbor_builder.{specs.declared.span.Span.Span, proofs.Slices.slice_all, proofs.Slices.slice_prefix, specs.inner.Prefix.ArePrefixed}
+use Rattle.cbor_builder.specs.declared.frame.{Frame.Frame, Shape.Shape}
 
 pub tile_le : (a : ℕ) (ss : List Span) (n : ℕ) → Tile a ss n → a ≤ n
 tile_le a [] n t = omega (arith, t)

@@ -4,8 +4,8 @@ use Rattle.std.proofs.lemmas.List.Sorted.{IsPermutation-map}
 use Rattle.cbor_head.specs.{Prelude.in_order, declared.order.KeyOrder.KeyOrder}
 use Rattle.theory_values.specs.Pairs.{IsRising, HasDistinctBytes, pair_bytes}
 use Rattle.theory_values.proofs.Sorting.{in_order-rising}
-use Rattle.cbor_output.specs.{Spans.span_pair, declared.span.Span.Span}
-use Rattle.cbor_builder.{specs.inner.Laid.pairs_from, specs.inner.Laid.Tile, proofs.Growth.tile_joins, proofs.Neighbours.rising_is_in_order}
+use Rattle.cbor_builder.specs.{inner.Spans.span_pair, declared.span.Span.Span, inner.Laid.pairs_from, inner.Laid.Tile}
+use Rattle.cbor_builder.proofs.{Growth.tile_joins, Neighbours.rising_is_in_order}
 
 -- spans whose keys rise are the pairs in order
 pub sorted_pairs : (o : KeyOrder) (out : List ℕ) (xs ys : List Span) → IsPermutation xs ys → IsRising o (map (span_pair out) ys) → HasDistinctBytes (map (span_pair out) xs)

@@ -8,9 +8,9 @@ use Rattle.std.specs.{declared.cmp.Ordering.TheVariants.Less, declared.cmp.Order
 use Rattle.cbor_head.specs.Prelude.{key_cmp, key_lt, AreBytes, Pair}
 use Rattle.cbor_head.specs.declared.order.KeyOrder.{KeyOrder}
 use Rattle.theory_values.{specs.Pairs.HasDistinctBytes, specs.Pairs.IsRising, proofs.Orders.key_cmp_total, proofs.Orders.lt_trans}
-use Rattle.cbor_output.{specs.Spans.span_pair, specs.Spans.no_span, specs.declared.span.Span.Span, proofs.ByIndex.all_index, proofs.ByIndex.at_read}
 use Rattle.cbor_builder.specs.inner.Prefix.{key_of, IsPrefixed, ArePrefixed, rank, ranked_by, at_start}
-use Rattle.cbor_builder.{specs.Built.HasKey, proofs.Ranks.agree_spans, proofs.KeysSoFar.distinct_permuted}
+use Rattle.cbor_builder.specs.{inner.Spans.span_pair, inner.Spans.no_span, declared.span.Span.Span}
+use Rattle.cbor_builder.{proofs.ByIndex.all_index, proofs.ByIndex.at_read, specs.Built.HasKey, proofs.Ranks.agree_spans, proofs.KeysSoFar.distinct_permuted}
 
 -- ---- a list with one more at an index
 

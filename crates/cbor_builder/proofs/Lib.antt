@@ -1,5 +1,7 @@
+pub mod ByIndex
 pub mod CanonStates
 pub mod FirstRepeat
+pub mod Gathered
 pub mod Growth
 pub mod InOrder
 pub mod Inserted
@@ -7,9 +9,11 @@ pub mod KeysSoFar
 pub mod LookUp
 pub mod Neighbours
 pub mod Nesting
+pub mod OpenMembers
 pub mod OpenRepeats
 pub mod PartsMade
 pub mod Ranks
 pub mod Reordered
-pub mod OpenMembers
+pub mod Slices
 pub mod Ties
+pub mod Written

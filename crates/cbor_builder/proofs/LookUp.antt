@@ -6,8 +6,8 @@ use Rattle.cbor_head.specs.Prelude.{key_cmp, key_lt, Value, Entries, HasEntry, S
 use Rattle.cbor_head.specs.{Value.no_entries, Value.entry, declared.order.KeyOrder.KeyOrder}
 use Rattle.theory_values.{specs.Pairs.IsRising, specs.Pairs.AreKeysValid, proofs.Keys.same_exactly, proofs.Orders.key_cmp_total, proofs.Orders.lt_irrefl}
 use Rattle.theory_values.proofs.Sound.{IsSound, sound}
-use Rattle.cbor_output.{specs.Spans.span_pair, specs.declared.span.Span.Span, proofs.ByIndex.at_read, proofs.ByIndex.all_index}
 use Rattle.cbor_builder.specs.inner.Prefix.{key_of, IsPrefixed, ArePrefixed, rank, ranked_by}
+use Rattle.cbor_builder.{specs.inner.Spans.span_pair, specs.declared.span.Span.Span, proofs.ByIndex.at_read, proofs.ByIndex.all_index}
 use Rattle.cbor_builder.{specs.Built.HasKey, specs.Built.HasSameKey, proofs.Ranks.agree_spans, proofs.Ranks.equal_keys}
 
 key_at : (f : Span → Pair) (ks : List Span) (i : ℕ) (x : Span) (k : List ℕ) → i < length ks → x ≡ get_or ks i x

@@ -7,8 +7,7 @@ use Rattle.cbor_head.specs.declared.order.KeyOrder.{KeyOrder}
 use Rattle.theory_values.proofs.Sorting.{rises_at, rising_cons, rising_unique, in_order_rising, in_order_in, in_in_order}
 use Rattle.theory_values.{specs.Pairs.HasDistinctBytes, specs.Pairs.IsRising, proofs.Members.in_contains, proofs.Members.contains_in}
 use Rattle.theory_values.proofs.Orders.{lt_trans, lt_other}
-use Rattle.cbor_output.specs.{Spans.span_pair, declared.span.Span.Span}
-use Rattle.cbor_builder.specs.inner.{Prefix.key_of, Repeats.DoNeighboursDiffer}
+use Rattle.cbor_builder.specs.{inner.Spans.span_pair, declared.span.Span.Span, inner.Prefix.key_of, inner.Repeats.DoNeighboursDiffer}
 
 abbrev pub keys : List Pair → List (List ℕ)
 keys ps = map (λ (p : Pair). p.key) ps

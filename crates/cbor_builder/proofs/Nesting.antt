@@ -2,9 +2,8 @@
 use Rattle.std.proofs.Common.{◌≡◌, ◌^◌, ◌≤◌, ℕ, Bool, true, false, List, [], ◌∷◌, ◌++◌, length, length-append, refl, ap, ◌∙◌, subst, arith, if◌then◌else◌, IsTrue, reverse}
 use Rattle.std.proofs.lemmas.List.{length-reverse}
 use Rattle.cbor_head.specs.declared.order.KeyOrder.{KeyOrder}
-use Rattle.cbor_output.specs.declared.span.Span.{Span}
 use Rattle.cbor_builder.specs.inner.Laid.{outermost, KeepsRising, OuterTakes, shape_after}
-use Rattle.cbor_builder.specs.{inner.BuilderState.outers, declared.builder.Core.Core, declared.frame.Frame.Frame}
+use Rattle.cbor_builder.specs.{declared.span.Span.Span, inner.BuilderState.outers, declared.builder.Core.Core, declared.frame.Frame.Frame}
 
 -- a member of the item itself changes nothing in its frame
 pub rooted_given : (o : KeyOrder) (out : List ℕ) (ss : List Span) (at : ℕ) (f f' : Frame) (opened : Bool) (below : List Frame) → f'.from ≡ f.from → f'.start ≡ f.start → f'.shape ≡ shape_after at f.shape

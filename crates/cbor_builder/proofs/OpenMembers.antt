@@ -3,11 +3,10 @@ use Rattle.std.proofs.Common.{◌≡◌, ℕ, List, [], ◌∷◌, ◌++◌, len
 use Rattle.std.{specs.Global.Vec, proofs.lemmas.Result.on_ok_weaker}
 use Rattle.cbor_head.specs.declared.order.KeyOrder.{KeyOrder}
 use Rattle.theory_values.specs.Parts.{plain, closed, close, give, extended}
-use Rattle.cbor_output.specs.declared.span.Span.{Span}
 use Rattle.cbor_builder.specs.inner.Laid.{shape_open, outer_spans, opens, Takes, IsReady, shape_after, spans_after, KeepsRising, Completed, Stands, IsString, Laid}
 use Rattle.cbor_builder.specs.inner.BuilderState.{IsLaid, StandsAs, CoreLeaves, open_levels, frames, outers}
 use Rattle.cbor_builder.proofs.Growth.{given, ended, key_ready, lengthened, finished}
-use Rattle.cbor_builder.{proofs.Nesting.rooted_given, specs.declared.builder.Core.Core, specs.declared.frame.Frame.Frame}
+use Rattle.cbor_builder.{specs.declared.span.Span.Span, proofs.Nesting.rooted_given, specs.declared.builder.Core.Core, specs.declared.frame.Frame.Frame}
 
 -- ---- one more member
 

@@ -3,14 +3,13 @@ use Rattle.std.proofs.Common.{◌≡◌, ℕ, suc, ◌+◌, ◌-◌, ◌^◌, �
 use Rattle.std.{specs.Option.option_or, specs.Bool.then_some, proofs.lemmas.List.length-map, proofs.lemmas.List.drop_all}
 use Rattle.cbor_head.specs.{Prelude.Pair, declared.order.KeyOrder.KeyOrder}
 use Rattle.theory_values.{specs.Parts.Open, proofs.Sorting.rising_distinct}
-use Rattle.cbor_output.specs.{Spans.span_pair, declared.span.Span.Span}
 use Rattle.cbor_builder.specs.Built.{HasKey, IsRepeatedKey, IsRepeatReported, keys_so_far, open_maps, AreAllDifferent, IsFirstRepeat}
 use Rattle.cbor_builder.specs.inner.Laid.{pairs_from, shape_open, Fits}
 use Rattle.cbor_builder.specs.inner.Repeats.{first_of, maps_of, outward, ReportsOf, ReportsWithin, Reports, IsBelow}
 use Rattle.cbor_builder.specs.declared.frame.Shape.TheVariants.{Plain, Map, Key}
 use Rattle.cbor_builder.proofs.KeysSoFar.{first_more, waits_repeated, waits_alone, distinct_different}
-use Rattle.cbor_builder.{specs.inner.Prefix.key_of, specs.declared.frame.Shape.Shape, specs.declared.repeat.Repeat.Repeat, proofs.Growth.count}
-use Rattle.cbor_builder.proofs.Neighbours.{keys, keys-map}
+use Rattle.cbor_builder.specs.{inner.Spans.span_pair, declared.span.Span.Span, inner.Prefix.key_of, declared.frame.Shape.Shape, declared.repeat.Repeat.Repeat}
+use Rattle.cbor_builder.proofs.{Growth.count, Neighbours.keys, Neighbours.keys-map}
 
 -- ---- from the innermost out
 

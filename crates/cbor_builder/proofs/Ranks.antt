@@ -11,9 +11,8 @@ use Rattle.cbor_head.specs.declared.order.KeyOrder.{KeyOrder, TheVariants.Bytewi
 use Rattle.theory_values.proofs.Members.{all_at, all_from, in_contains, contains_in}
 use Rattle.theory_values.{proofs.Orders.key_cmp_total, proofs.Orders.tied, proofs.KeyByteLists.bytes_slice, specs.KeyPrefix.prefix_of}
 use Rattle.theory_values.proofs.KeyPrefixes.{agree_prefix}
-use Rattle.cbor_output.{proofs.ByIndex.all_index, specs.Spans.no_span, specs.declared.span.Span.Span}
 use Rattle.cbor_builder.specs.inner.Prefix.{key_of, IsPrefixed, ArePrefixed, by_prefix, rank, ranked_by}
-use Rattle.cbor_builder.{specs.inner.Repeats.nth, proofs.Neighbours.is_tied}
+use Rattle.cbor_builder.{proofs.ByIndex.all_index, specs.inner.Spans.no_span, specs.declared.span.Span.Span, specs.inner.Repeats.nth, proofs.Neighbours.is_tied}
 
 -- with the right prefixes, the ranks are the order of the keys
 pub agree : (o : KeyOrder) (a b : ℕ) (xs ys : List ℕ) → AreBytes xs → AreBytes ys → a ≡ prefix_of xs → b ≡ prefix_of ys → rank o (a, xs) (b, ys) ≡ key_cmp o xs ys

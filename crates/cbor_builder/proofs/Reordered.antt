@@ -3,10 +3,9 @@ use Rattle.std.proofs.Common.{◌≡◌, ℕ, Bool, List, [], ◌∷◌, length,
 use Rattle.std.proofs.lemmas.List.{drop_all, Sorted.IsPermutation-refl, Sorted.length_permutation}
 use Rattle.cbor_head.specs.declared.order.KeyOrder.{KeyOrder}
 use Rattle.theory_values.specs.Parts.{Open}
-use Rattle.cbor_output.specs.declared.span.Span.{Span}
 use Rattle.cbor_builder.specs.inner.BuilderState.{outers, frames, IsReordered, IsLeftOpen}
 use Rattle.cbor_builder.specs.inner.Laid.{shape_open, outer_spans, opens, Fits, Laid}
-use Rattle.cbor_builder.specs.{Built.IsRepeatedKey, declared.builder.Core.Core, declared.frame.Frame.Frame, declared.frame.Shape.Shape}
+use Rattle.cbor_builder.specs.{declared.span.Span.Span, Built.IsRepeatedKey, declared.builder.Core.Core, declared.frame.Frame.Frame, declared.frame.Shape.Shape}
 use Rattle.cbor_builder.specs.{declared.frame.Shape.TheVariants.Map, declared.frame.Shape.TheVariants.Key, inner.Repeats.first_of, inner.Repeats.AreOf}
 
 pub reordered_refl : (ss : List Span) (s : Shape) → IsReordered ss ss s

@@ -8,9 +8,8 @@ use Rattle.std.specs.{List.swap, Ordering.is_lt, Ordering.ordering_reverse, decl
 use Rattle.std.proofs.lemmas.Bool.{cases_lt, cases_eq}
 use Rattle.cbor_head.specs.{Prelude.key_cmp, Prelude.key_lt, declared.order.KeyOrder.KeyOrder}
 use Rattle.theory_values.proofs.Orders.{key_cmp_total, tied}
-use Rattle.cbor_output.specs.{Spans.no_span, declared.span.Span.Span}
 use Rattle.cbor_builder.specs.inner.Repeats.{nth, place, AreGrouped, IsTie, HasTie, IsUpTo, IsFirstTie, IsFirstOf, IsLeastOfKey}
-use Rattle.cbor_builder.specs.{inner.Prefix.key_of, declared.repeats.Tie.Tie}
+use Rattle.cbor_builder.specs.{inner.Spans.no_span, declared.span.Span.Span, inner.Prefix.key_of, declared.repeats.Tie.Tie}
 
 -- ---- two of a list are found again in another order
 

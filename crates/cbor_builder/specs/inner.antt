@@ -4,3 +4,4 @@ pub mod CanonState
 pub mod Prefix
 pub mod Laid
 pub mod Repeats
+pub mod Spans

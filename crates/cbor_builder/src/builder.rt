@@ -11,7 +11,7 @@ ghost use Rattle.cbor_builder.specs.inner.BuilderState.{open_levels, frames, out
 ghost use Rattle.cbor_builder.specs.inner.BuilderState.{WasLaid, came_open_levels};
 ghost use Rattle.cbor_builder.specs.inner.BuilderState.{StandsAs, CoreLeaves};
 ghost use Rattle.cbor_builder.specs.declared.frame.Shape.TheVariants.{Key};
-ghost use Rattle.cbor_output.specs.declared.span.Span.{Span};
+ghost use Rattle.cbor_builder.specs.declared.span.Span.{Span};
 ghost use Rattle.cbor_builder.specs.inner.Repeats.{ReportsOf, Reports};
 
 mod closing;
@@ -22,12 +22,12 @@ use crate::frame::{Frame, Shape};
 use crate::look_up::has_key;
 use crate::member::complete;
 use crate::opening::opening;
+use crate::output_buffer::OutputBuffer;
 use crate::repeat::Repeat;
 use crate::repeats::{first_repeat, outward};
+use crate::span::Span;
 use cbor_head::{KeyOrder, Major};
 use cbor_memory::Memory;
-use cbor_output::output_buffer::OutputBuffer;
-use cbor_output::span::Span;
 use std::alloc::{AllocError, Global};
 use theory_values::part;
 

@@ -4,8 +4,8 @@ ghost use Rattle.std.specs.Prelude.{◌≡◌};
 ghost use Rattle.cbor_builder.specs.inner.Laid.{outermost};
 ghost use Rattle.cbor_builder.specs.inner.Repeats.{first_of, maps_of};
 
+use crate::span::Span;
 use cbor_head::Major;
-use cbor_output::span::Span;
 
 /// The kind of an open part, and how far it has come.
 #[derive(Clone, Copy)]

@@ -4,12 +4,12 @@ ghost use Rattle.std.specs.Prelude.{◌≡◌, ◌↔◌, ◌<◌, ◌∷◌, Is
 ghost use Rattle.std.specs.Prelude.{IsPermutation};
 ghost use Rattle.cbor_builder.specs.Built.{HasKey};
 ghost use Rattle.cbor_builder.specs.inner.Prefix.{key_of, IsPrefixed, ArePrefixed, at_start};
-ghost use Rattle.cbor_output.specs.Spans.{span_pair};
+ghost use Rattle.cbor_builder.specs.inner.Spans.{span_pair};
 ghost use Rattle.theory_values.specs.Pairs.{HasDistinctBytes, IsRising};
 
 use crate::ranking::compare;
+use crate::span::Span;
 use cbor_head::KeyOrder;
-use cbor_output::span::Span;
 use std::cmp::Ordering;
 
 /// Sorts the spans by their keys in place. Returns false if two keys are equal: then the spans are

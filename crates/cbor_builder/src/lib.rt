@@ -6,16 +6,20 @@
 
 mod builder;
 mod canon_builder;
+mod copies;
 mod frame;
+mod head;
 mod insertion;
 pub mod laws;
 mod look_up;
 mod member;
 mod opening;
+mod output_buffer;
 mod ranking;
 mod repeat;
 mod repeats;
 mod sort;
+mod span;
 
 pub use canon_builder::CanonBuilder;
 pub use repeat::Repeat;

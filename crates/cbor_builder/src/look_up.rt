@@ -4,14 +4,14 @@ ghost use Rattle.std.specs.Prelude.{◌↔◌, ◌≤◌, IsTrue, map, length, s
 ghost use Rattle.cbor_head.specs.declared.order.KeyOrder.{KeyOrder};
 ghost use Rattle.cbor_builder.specs.Built.{HasKey};
 ghost use Rattle.cbor_builder.specs.inner.Prefix.{ArePrefixed, IsPrefixed, key_of};
-ghost use Rattle.cbor_output.specs.Spans.{span_pair};
+ghost use Rattle.cbor_builder.specs.inner.Spans.{span_pair};
 ghost use Rattle.theory_values.specs.Pairs.{IsRising};
 
 use crate::member::is_above;
+use crate::output_buffer::OutputBuffer;
 use crate::ranking::{compare, prefix};
+use crate::span::Span;
 use cbor_head::KeyOrder;
-use cbor_output::output_buffer::OutputBuffer;
-use cbor_output::span::Span;
 
 // Whether one of the pairs has the key from `key` to `val`. If their keys rise, a key above the
 // last one costs one comparison. Otherwise a pair costs a comparison of two numbers if the first

@@ -5,16 +5,16 @@ ghost use Rattle.cbor_head.specs.declared.order.KeyOrder.{KeyOrder};
 ghost use Rattle.theory_values.specs.Pairs.{IsRising};
 ghost use Rattle.cbor_builder.specs.declared.frame.Shape.TheVariants.{Key, Map};
 ghost use Rattle.cbor_builder.specs.inner.Prefix.{ArePrefixed, IsPrefixed};
-ghost use Rattle.cbor_output.specs.Spans.{span_pair};
+ghost use Rattle.cbor_builder.specs.inner.Spans.{span_pair};
 ghost use Rattle.cbor_builder.specs.inner.Laid.{Takes, IsReady, shape_after, spans_after};
 ghost use Rattle.cbor_builder.specs.inner.Laid.{KeepsRising};
 
 use crate::frame::{Frame, Shape};
+use crate::output_buffer::OutputBuffer;
 use crate::ranking::{compare, prefix};
+use crate::span::Span;
 use cbor_head::KeyOrder;
 use cbor_memory::Memory;
-use cbor_output::output_buffer::OutputBuffer;
-use cbor_output::span::Span;
 use std::alloc::AllocError;
 
 /// Whether a pair's key is above those of the spans from an index on, if these rise.

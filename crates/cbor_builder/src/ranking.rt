@@ -5,15 +5,15 @@ ghost use Rattle.theory_values.specs.KeyPrefix.{prefix_of};
 ghost use Rattle.cbor_builder.specs.inner.Prefix.{by_prefix, rank, ranked_by};
 ghost use Rattle.cbor_head.specs.Order.{key_cmp};
 
+use crate::output_buffer::OutputBuffer;
+use crate::span::Span;
 use cbor_head::KeyOrder;
-use cbor_output::output_buffer::OutputBuffer;
-use cbor_output::span::Span;
 use std::cmp::Ordering;
 use theory_values::{compare_keys, key_prefix, part};
 
 // The first eight bytes of a key as a number. All eight are read at once, also beyond the key's
 // and the written bytes.
-#[tactic(auto, using(cbor_output::proofs::Slices::slice_within))]
+#[tactic(auto, using(crate::proofs::Slices::slice_within))]
 #[inline(always)]
 pub(crate) fn prefix(out: &OutputBuffer, key: usize, val: usize) -> u64
     requires begins { key ≤ val }

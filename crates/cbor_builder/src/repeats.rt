@@ -3,7 +3,7 @@
 ghost use Rattle.std.specs.Prelude.{◌≡◌, ◌+◌, ◌^◌, ◌<◌, List, length, map};
 ghost use Rattle.std.specs.Prelude.{IfSome, MatchOption};
 ghost use Rattle.std.specs.List.{count_by};
-ghost use Rattle.cbor_output.specs.declared.span.Span.{Span};
+ghost use Rattle.cbor_builder.specs.declared.span.Span.{Span};
 ghost use Rattle.cbor_builder.specs.Built.{AreAllDifferent, IsFirstRepeat};
 ghost use Rattle.cbor_builder.specs.inner.Prefix.{key_of, ArePrefixed};
 ghost use Rattle.cbor_builder.specs.inner.Repeats.{place, lies_before, HasPlace, ArePlaced, outward};
@@ -12,8 +12,8 @@ ghost use Rattle.cbor_builder.specs.inner.Repeats.{AreOf, AreGrouped, IsFirstTie
 use crate::ranking::compare;
 use crate::repeat::Repeat;
 use crate::sort::sort_by_keys;
+use crate::span::Span;
 use cbor_head::KeyOrder;
-use cbor_output::span::Span;
 
 /// Two pairs with equal keys, by their offsets.
 #[derive(Clone, Copy)]

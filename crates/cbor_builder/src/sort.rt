@@ -4,14 +4,14 @@ ghost use Rattle.std.specs.Prelude.{◌↔◌, IsTrue, map};
 ghost use Rattle.std.specs.Prelude.{IsPermutation, IsSortedBy};
 ghost use Rattle.cbor_builder.specs.inner.Repeats.{DoNeighboursDiffer};
 ghost use Rattle.theory_values.specs.Pairs.{HasDistinctBytes, IsRising};
-ghost use Rattle.cbor_output.specs.Spans.{span_pair};
+ghost use Rattle.cbor_builder.specs.inner.Spans.{span_pair};
 ghost use Rattle.cbor_builder.specs.inner.Prefix.{rank, ranked_by, ArePrefixed};
 ghost use Rattle.std.specs.Ordering.{is_lt};
 
 use crate::insertion::insert_each;
 use crate::ranking::compare;
+use crate::span::Span;
 use cbor_head::KeyOrder;
-use cbor_output::span::Span;
 
 // Up to this number of pairs are sorted by insertion.
 const FEW: usize = 16;

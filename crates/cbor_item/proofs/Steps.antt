@@ -1,6 +1,6 @@
 -- A slice of a list, one step of a loop at a time.
 use Rattle.std.proofs.Common.{◌≡◌, ℕ, suc, ◌+◌, ◌-◌, ◌<◌, ◌≤◌, List, ◌∷◌, length, take, drop, get_or, slice_range, ap, ◌∙◌, arith}
-use Rattle.cbor_output.proofs.ByIndex.{at_read}
+use Rattle.cbor_builder.proofs.ByIndex.{at_read}
 
 pub range_step : {X : Type 0} (xs : List X) (i to : ℕ) (x : X) → i < to → to ≤ length xs → x ≡ get_or xs i x → slice_range xs i to ≡ x ∷ slice_range xs (i + 1) to
 range_step xs i to x l h is =

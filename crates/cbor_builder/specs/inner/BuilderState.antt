@@ -1,9 +1,8 @@
 -- What a builder represents.
 use Rattle.std.specs.Prelude.{if◌then◌else◌, Bool, false, ◌≡◌, ◌↔◌, List, [], ◌∷◌, ◌++◌, reverse, take, drop, IsPermutation, IsTrue, Result, OnOk, IfOk}
 use Rattle.theory_values.specs.Parts.{Open, HasNoRepeats}
-use Rattle.cbor_output.specs.declared.span.Span.{Span}
 use Rattle.cbor_builder.specs.inner.Laid.{outermost, shape_open, opens, Laid}
-use Rattle.cbor_builder.specs.declared.{builder.Core.Core, frame.Frame.Frame, frame.Shape.Shape, frame.Shape.TheVariants.Map}
+use Rattle.cbor_builder.specs.declared.{span.Span.Span, builder.Core.Core, frame.Frame.Frame, frame.Shape.Shape, frame.Shape.TheVariants.Map}
 
 -- what is around the innermost, from within: the outermost last, which is always the same
 abbrev pub outers : Core → List Frame

@@ -4,9 +4,8 @@ use Rattle.cbor_head.specs.declared.major.Major.TheVariants as of_major
 use Rattle.cbor_head.specs.{Prelude.Pair, declared.order.KeyOrder.KeyOrder, declared.major.Major.Major, declared.major.Major.TheVariants.Simple}
 use Rattle.theory_values.specs.Parts.{Open, plain, an_array, a_map, a_key, a_string}
 use Rattle.theory_values.specs.{Pairs.IsRising, KeyPrefix.prefix_of}
-use Rattle.cbor_output.specs.{declared.span.Span.Span, Spans.span_pair}
 use Rattle.cbor_builder.specs.declared.frame.Shape.TheVariants.{Plain, Array, Map, Key, Content}
-use Rattle.cbor_builder.specs.{inner.Prefix.ArePrefixed, declared.frame.Frame.Frame, declared.frame.Shape.Shape}
+use Rattle.cbor_builder.specs.{declared.span.Span.Span, inner.Spans.span_pair, inner.Prefix.ArePrefixed, declared.frame.Frame.Frame, declared.frame.Shape.Shape}
 
 -- the frame of the item itself, before any part of it was given
 abbrev pub outermost : Frame

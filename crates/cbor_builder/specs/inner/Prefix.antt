@@ -5,7 +5,7 @@ use Rattle.std.specs.{List.AllByRecursion, declared.cmp.Ordering.Ordering}
 use Rattle.cbor_head.specs.{Prelude.key_cmp, declared.order.KeyOrder.KeyOrder}
 use Rattle.cbor_head.specs.declared.order.KeyOrder.TheVariants.{Bytewise, LengthFirst}
 pub use Rattle.theory_values.specs.KeyPrefix.{prefix_of}
-use Rattle.cbor_output.specs.declared.span.Span.{Span}
+use Rattle.cbor_builder.specs.declared.span.Span.{Span}
 
 abbrev pub key_of : List ℕ → Span → List ℕ
 key_of out s = slice_range out s.key s.val

@@ -2,10 +2,9 @@
 use Rattle.std.specs.Prelude.{ℕ, suc, Bool, nat_lt, ◌+◌, ◌^◌, ◌≡◌, ◌≢◌, ◌<◌, ◌≤◌, ◌⊎◌, List, length, Option, Some, None, IfSome, slice_index_or, MatchOption, IsPermutation, min, max}
 use Rattle.std.specs.List.{AllByRecursion}
 use Rattle.theory_values.specs.Parts.{Open}
-use Rattle.cbor_output.specs.{declared.span.Span.Span, Spans.no_span}
 use Rattle.cbor_builder.specs.Built.{keys_so_far, open_maps, IsFirstRepeat, AreAllDifferent, AreOpenKeysDifferent, IsRepeatReported}
-use Rattle.cbor_builder.specs.{inner.Prefix.key_of, inner.Prefix.ArePrefixed, inner.Laid.Tile, declared.frame.Shape.Shape}
-use Rattle.cbor_builder.specs.declared.{frame.Shape.TheVariants.Map, frame.Shape.TheVariants.Key, repeat.Repeat.Repeat, repeats.Tie.Tie}
+use Rattle.cbor_builder.specs.{declared.span.Span.Span, inner.Spans.no_span, inner.Prefix.key_of, inner.Prefix.ArePrefixed, inner.Laid.Tile}
+use Rattle.cbor_builder.specs.declared.{frame.Shape.Shape, frame.Shape.TheVariants.Map, frame.Shape.TheVariants.Key, repeat.Repeat.Repeat, repeats.Tie.Tie}
 
 abbrev pub nth : List Span → ℕ → Span
 nth ss i = slice_index_or ss i no_span

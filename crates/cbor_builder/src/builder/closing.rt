@@ -15,9 +15,9 @@ use crate::builder::Core;
 use crate::frame::{Frame, Shape};
 use crate::member::complete;
 use crate::sort::sort_distinct;
+use crate::span::rearrange;
 use cbor_head::Major;
 use cbor_memory::Memory;
-use cbor_output::span::rearrange;
 use std::alloc::AllocError;
 
 impl Core {

@@ -1,10 +1,9 @@
 use Rattle.std.proofs.Common.{◌-◌, ◌∷◌, length, length-take, take, get_or, map, refl, sym, subst, arith, IsPermutation}
 use Rattle.std.proofs.lemmas.List.{drop_all, Sorted.IsPermutation-insert}
 use Rattle.theory_values.{proofs.KeyByteLists.are_bytes, proofs.Orders.tied, specs.Pairs.IsRising}
-use Rattle.cbor_output.specs.Spans.{span_pair, no_span}
 use Rattle.cbor_builder.proofs.Inserted.{AreAbove, AreBelow, free_place, set_free, above_more, none_below, below_all, inserted_rises, has_key_at, visited, less_key, greater_key}
 use Rattle.cbor_builder.proofs.insertion.insert.Goals as goal
-use Rattle.cbor_builder.specs.inner.Prefix.{key_of, at_start}
+use Rattle.cbor_builder.specs.inner.{Spans.span_pair, Spans.no_span, Prefix.key_of, Prefix.at_start}
 use Rattle.cbor_builder.proofs.insertion.insert.Goals.{else-loop-at-test, then-loop-at-test+in-Less}
 
 pub loop-at-init : goal.loop-at-init

@@ -1,8 +1,7 @@
 use Rattle.std.proofs.Common.{◌≡◌, ◌≤◌, length, drop}
 use Rattle.std.specs.List.{insert}
-use Rattle.cbor_output.specs.declared.span.Span.{Span}
 use Rattle.cbor_builder.proofs.insertion.insert.Given as goal
-use Rattle.cbor_builder.{specs.inner.Prefix.at_start, proofs.Inserted.AreAbove}
+use Rattle.cbor_builder.{specs.declared.span.Span.Span, specs.inner.Prefix.at_start, proofs.Inserted.AreAbove}
 
 abbrev pub invariant-loop-at : goal.invariant-loop-at
 invariant-loop-at l =

@@ -2,11 +2,11 @@ use Rattle.std.proofs.Common.{◌≡◌, ℕ, ◌+◌, ◌++◌, ◌∷◌, List
 use Rattle.std.proofs.lemmas.List.Sorted.{IsPermutation-sym, IsPermutation-map, IsPermutation-append_left}
 use Rattle.std.proofs.lemmas.List.{get_or_default}
 use Rattle.theory_values.{specs.Pairs.IsRising, proofs.Sorting.rising_distinct, proofs.Decided.holds, proofs.Decided.fails}
-use Rattle.cbor_output.{specs.Spans.span_pair, specs.Spans.no_span, specs.declared.span.Span.Span, proofs.ByIndex.all_index}
 use Rattle.cbor_builder.specs.inner.Prefix.{key_of, IsPrefixed, ArePrefixed}
 use Rattle.cbor_builder.proofs.Inserted.{at_start_taken, taken_prefix, rest_prefix, same_at, rest_more, all_taken, more_permuted, repeats}
 use Rattle.cbor_builder.proofs.insertion.insert_each.Goals as goal
-use Rattle.cbor_builder.{specs.Built.HasKey, proofs.KeysSoFar.distinct_permuted, proofs.Ranks.all_permuted}
+use Rattle.cbor_builder.{specs.inner.Spans.span_pair, specs.inner.Spans.no_span, specs.declared.span.Span.Span, proofs.ByIndex.all_index, specs.Built.HasKey}
+use Rattle.cbor_builder.proofs.{KeysSoFar.distinct_permuted, Ranks.all_permuted}
 
 pub insert-requires-clause-prefixed : goal.insert-requires-clause-prefixed
 insert-requires-clause-prefixed c =

@@ -1,7 +1,7 @@
 use Rattle.std.proofs.Common.{◌≡◌, map, take, drop, IsPermutation}
 use Rattle.theory_values.specs.Pairs.{IsRising}
-use Rattle.cbor_output.specs.Spans.{span_pair}
 use Rattle.cbor_builder.proofs.insertion.insert_each.Given as goal
+use Rattle.cbor_builder.specs.inner.Spans.{span_pair}
 
 abbrev pub invariant-loop-i : goal.invariant-loop-i
 invariant-loop-i l =

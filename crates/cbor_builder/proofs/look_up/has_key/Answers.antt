@@ -1,8 +1,7 @@
 use Rattle.std.proofs.Common.{List, ℕ, ◌∷◌, ◌++◌, [], map, subst}
 use Rattle.theory_values.{proofs.Decided.fails, specs.Pairs.IsRising}
-use Rattle.cbor_output.specs.{Spans.span_pair, declared.span.Span.Span}
 use Rattle.cbor_builder.proofs.look_up.has_key.Goals as goal
-use Rattle.cbor_builder.proofs.LookUp.{above_other}
+use Rattle.cbor_builder.{specs.inner.Spans.span_pair, specs.declared.span.Span.Span, proofs.LookUp.above_other}
 
 pub returns-then-is_above : goal.returns-then-is_above
 returns-then-is_above c =

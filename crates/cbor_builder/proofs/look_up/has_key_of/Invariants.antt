@@ -1,7 +1,6 @@
 use Rattle.std.proofs.Common.{◌↔◌, drop, map}
-use Rattle.cbor_output.specs.Spans.{span_pair}
 use Rattle.cbor_builder.proofs.look_up.has_key_of.Given as goal
-use Rattle.cbor_builder.specs.{Built.HasKey, inner.Prefix.key_of}
+use Rattle.cbor_builder.specs.{inner.Spans.span_pair, Built.HasKey, inner.Prefix.key_of}
 
 abbrev pub invariant-loop-span : goal.invariant-loop-span
 invariant-loop-span l =

@@ -1,9 +1,8 @@
 use Rattle.std.proofs.Common.{◌≡◌, ◌+◌, ◌-◌, length, length-drop, drop, get_or, ◌∙◌, ap, sym, subst, arith}
 use Rattle.std.{proofs.lemmas.List.get_or-drop, specs.Ordering.is_lt, proofs.lemmas.Option.get_or_from_slice_get}
 use Rattle.theory_values.proofs.KeyByteLists.{are_bytes}
-use Rattle.cbor_output.proofs.ByIndex.{all_index}
 use Rattle.cbor_builder.proofs.member.is_above.Goals as goal
-use Rattle.cbor_builder.{specs.inner.Prefix.IsPrefixed, proofs.Ranks.agree_spans, proofs.Inserted.above_last}
+use Rattle.cbor_builder.{proofs.ByIndex.all_index, specs.inner.Prefix.IsPrefixed, proofs.Ranks.agree_spans, proofs.Inserted.above_last}
 
 pub returns-in-Some : goal.returns-in-Some
 returns-in-Some c = λ t r.

@@ -1,10 +1,9 @@
 use Rattle.std.proofs.Common.{map, arith, IsTrue}
 use Rattle.std.proofs.lemmas.List.Sorted.{IsPermutation-sym, IsPermutation-map}
 use Rattle.theory_values.{specs.Pairs.IsRising, proofs.KeyByteLists.are_bytes, proofs.Sorting.rising_distinct}
-use Rattle.cbor_output.specs.Spans.{span_pair}
 use Rattle.cbor_builder.proofs.sort.sort_distinct.Goals as goal
-use Rattle.cbor_builder.proofs.{Ranks.all_permuted, Ranks.sorted_keys, Neighbours.differ_from_distinct, Neighbours.rising_from_differ}
-use Rattle.cbor_builder.proofs.KeysSoFar.{distinct_permuted}
+use Rattle.cbor_builder.{specs.inner.Spans.span_pair, proofs.Ranks.all_permuted, proofs.Ranks.sorted_keys}
+use Rattle.cbor_builder.proofs.{Neighbours.differ_from_distinct, Neighbours.rising_from_differ, KeysSoFar.distinct_permuted}
 
 pub differ-requires : goal.differ-requires
 differ-requires c = all_permuted _ c.args.spans.now c.sort_by_keys.new.spans c.sort_by_keys.ensures.permuted c.requires

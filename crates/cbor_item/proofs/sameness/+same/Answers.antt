@@ -4,7 +4,7 @@ use Rattle.cbor_head.specs.Prelude.{Value, Same, SameValues, Covered, IsValid, A
 use Rattle.theory_values.proofs.Decided.{was_true, was_false, fails, unequal}
 use Rattle.theory_values.proofs.Lists.{IsVisited, values_counted, entries_counted, valid_read, covered_on, covered_fail, visited_on, visited_behind, visited_before}
 use Rattle.theory_values.proofs.Sameness.{SameValues-count}
-use Rattle.cbor_output.proofs.ByIndex.{at_read}
+use Rattle.cbor_builder.proofs.ByIndex.{at_read}
 use Rattle.cbor_item.proofs.sameness.+same.Goals as goal
 use Rattle.cbor_item.proofs.{Counting.same_by_count, Sizes.member_fits, Sizes.pair_fits, Steps.range_step}
 use Rattle.cbor_item.specs.Nodes.{entries_in, values_in}

@@ -1,8 +1,8 @@
 use Rattle.std.proofs.Common.{List, ◌∷◌, ap, ◌∙◌}
 use Rattle.theory_values.specs.Parts.{opened}
-use Rattle.cbor_output.specs.declared.span.Span.{Span}
 use Rattle.cbor_builder.proofs.builder.Core.begin.Goals as goal
-use Rattle.cbor_builder.{specs.inner.BuilderState.frames, specs.inner.Laid.opens, specs.inner.Laid.opening_frame, proofs.Growth.begun}
+use Rattle.cbor_builder.specs.{declared.span.Span.Span, inner.BuilderState.frames, inner.Laid.opens, inner.Laid.opening_frame}
+use Rattle.cbor_builder.proofs.Growth.{begun}
 
 pub returns-clause-given : goal.returns-clause-given
 returns-clause-given c =

@@ -1,8 +1,7 @@
 use Rattle.std.proofs.Common.{◌≡◌, ◌-◌, ◌^◌, ◌≤◌, List, length}
-use Rattle.cbor_output.specs.declared.span.Span.{Span}
 use Rattle.cbor_builder.specs.inner.BuilderState.{outers, WasLaid, came_open_levels}
 use Rattle.cbor_builder.proofs.builder.Core.first_repeat.Given as goal
-use Rattle.cbor_builder.specs.inner.{Laid.opens, Laid.Laid, Repeats.ReportsWithin, Repeats.IsBelow}
+use Rattle.cbor_builder.specs.{declared.span.Span.Span, inner.Laid.opens, inner.Laid.Laid, inner.Repeats.ReportsWithin, inner.Repeats.IsBelow}
 
 abbrev pub invariant-loop-self : goal.invariant-loop-self
 invariant-loop-self l =

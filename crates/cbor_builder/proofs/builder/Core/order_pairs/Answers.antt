@@ -2,10 +2,9 @@ use Rattle.std.proofs.Common.{◌∙◌, ◌++◌, ℕ, List, take, drop, length
 use Rattle.std.proofs.lemmas.List.{take_rest}
 use Rattle.cbor_head.specs.Prelude.{Pair}
 use Rattle.theory_values.{specs.Pairs.pair_bytes, proofs.Decided.holds, proofs.Sorting.rising_distinct}
-use Rattle.cbor_output.specs.{Spans.span_pair, Spans.AreWithin, declared.span.Span.Span}
 use Rattle.cbor_builder.proofs.builder.Core.order_pairs.Goals as goal
-use Rattle.cbor_builder.{specs.declared.frame.Frame.Frame, specs.inner.Laid.pairs_from, proofs.Growth.tile_within, proofs.InOrder.risen}
-use Rattle.cbor_builder.proofs.Ranks.{all_permuted}
+use Rattle.cbor_builder.specs.{inner.Spans.span_pair, inner.Spans.AreWithin, declared.span.Span.Span, declared.frame.Frame.Frame, inner.Laid.pairs_from}
+use Rattle.cbor_builder.proofs.{Growth.tile_within, InOrder.risen, Ranks.all_permuted}
 
 pub returns-then-self-clause-distinct : goal.returns-then-self-clause-distinct
 returns-then-self-clause-distinct c =

@@ -1,9 +1,9 @@
 use Rattle.std.proofs.Common.{◌≡◌, ◌+◌, ◌≤◌, ◌++◌, ◌∙◌, ℕ, List, length, length-append, length-drop, length-take, take, drop, map, refl, sym, ap, subst, arith, IsPermutation, append_assoc, IsTrue, ◌↔◌}
 use Rattle.std.proofs.lemmas.List.{take_rest, Sorted.length_permutation}
 use Rattle.theory_values.specs.Pairs.{IsRising, HasDistinctBytes}
-use Rattle.cbor_output.specs.{Spans.span_pair, declared.span.Span.Span}
 use Rattle.cbor_builder.proofs.builder.Core.order_spans.Goals as goal
-use Rattle.cbor_builder.{specs.inner.Prefix.ArePrefixed, proofs.InOrder.sorted_pairs, proofs.Inserted.taken_prefix, proofs.Inserted.rest_prefix}
+use Rattle.cbor_builder.{specs.inner.Spans.span_pair, specs.declared.span.Span.Span, specs.inner.Prefix.ArePrefixed, proofs.InOrder.sorted_pairs}
+use Rattle.cbor_builder.proofs.Inserted.{taken_prefix, rest_prefix}
 
 pub sort_distinct-requires : goal.sort_distinct-requires
 sort_distinct-requires c =

@@ -1,10 +1,10 @@
 use Rattle.std.proofs.Common.{◌↔◌, List, ◌∷◌, IsTrue, drop, take, map, sym, ap, ◌∙◌, subst, arith}
 use Rattle.std.proofs.lemmas.List.{take_rest}
 use Rattle.theory_values.specs.Pairs.{IsRising}
-use Rattle.cbor_output.{specs.Spans.span_pair, specs.declared.span.Span.Span, proofs.Slices.slice_all}
 use Rattle.cbor_builder.proofs.builder.Core.repeated.Goals as goal
 use Rattle.cbor_builder.specs.inner.Laid.{Fits, opens, outer_spans, shape_open}
-use Rattle.cbor_builder.specs.{Built.HasKey, Built.IsRepeatedKey, inner.BuilderState.outers, inner.Prefix.ArePrefixed, declared.frame.Shape.Shape}
+use Rattle.cbor_builder.{specs.inner.Spans.span_pair, specs.declared.span.Span.Span, proofs.Slices.slice_all, specs.Built.HasKey, specs.Built.IsRepeatedKey}
+use Rattle.cbor_builder.specs.{inner.BuilderState.outers, inner.Prefix.ArePrefixed, declared.frame.Shape.Shape}
 
 pub has_key-requires : goal.has_key-requires
 has_key-requires c =

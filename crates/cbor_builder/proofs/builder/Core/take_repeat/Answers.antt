@@ -1,10 +1,9 @@
 use Rattle.std.proofs.Common.{List, drop, sym, ap, ◌∙◌, subst, MatchOption}
 use Rattle.std.proofs.lemmas.List.{take_rest}
-use Rattle.cbor_output.specs.declared.span.Span.{Span}
 use Rattle.cbor_builder.proofs.OpenRepeats.{own_keys, reported_of, rising_different}
 use Rattle.cbor_builder.proofs.Reordered.{reordered_first, reordered_length, reordered_own, reordered_waits}
 use Rattle.cbor_builder.proofs.builder.Core.take_repeat.Goals as goal
-use Rattle.cbor_builder.specs.inner.{BuilderState.frames, BuilderState.IsReordered, Laid.Laid, Laid.opens}
+use Rattle.cbor_builder.specs.{declared.span.Span.Span, inner.BuilderState.frames, inner.BuilderState.IsReordered, inner.Laid.Laid, inner.Laid.opens}
 use Rattle.cbor_builder.specs.{Built.AreAllDifferent, Built.IsFirstRepeat, inner.Repeats.first_of, inner.Repeats.AreOf}
 use Rattle.cbor_builder.proofs.builder.Core.take_repeat.Goals.{then-not-self, else-not-self}
 

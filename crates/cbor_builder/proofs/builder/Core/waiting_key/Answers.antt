@@ -1,8 +1,7 @@
 use Rattle.std.proofs.Common.{ℕ, List, ◌∷◌, take, sym, ap, ◌∙◌, subst, slice_range}
-use Rattle.cbor_output.proofs.Slices.{slice_all}
 use Rattle.cbor_builder.proofs.builder.Core.waiting_key.Goals as goal
 use Rattle.cbor_builder.specs.inner.Laid.{opens, outer_spans, shape_open}
-use Rattle.cbor_builder.specs.{Built.IsWaitingKey, inner.BuilderState.outers, declared.frame.Shape.Shape}
+use Rattle.cbor_builder.{proofs.Slices.slice_all, specs.Built.IsWaitingKey, specs.inner.BuilderState.outers, specs.declared.frame.Shape.Shape}
 
 pub returns-in-Key : goal.returns-in-Key
 returns-in-Key c =

@@ -1,6 +1,6 @@
 use Rattle.std.proofs.Common.{◌≡◌, ◌+◌, ◌-◌, ◌++◌, take, drop, length, length-append, length-take, length-drop, ap, ◌∙◌, sym, arith, take-take}
 use Rattle.std.proofs.lemmas.List.{with_items_is}
-use Rattle.cbor_output.proofs.Written.{written}
+use Rattle.cbor_builder.proofs.Written.{written}
 use Rattle.cbor_item.proofs.joined.Joined.extend_prefix.Goals as goal
 
 pub returns-in-Some-clause-extended : goal.returns-in-Some-clause-extended

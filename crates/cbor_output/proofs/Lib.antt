@@ -1,4 +1,0 @@
-pub mod ByIndex
-pub mod Gathered
-pub mod Slices
-pub mod Written
