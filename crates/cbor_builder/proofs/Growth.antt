@@ -1,7 +1,7 @@
 -- What is open while the buffer grows.
-use Rattle.std.proofs.Common.{◌≡◌, ℕ, suc, ◌+◌, ◌-◌, ◌≤◌, List, [], ◌∷◌, ◌++◌, append_assoc, length, length-append, length-drop, take, drop, take-append-drop, length-take, drop-drop, refl, sym, ap, ◌∙◌, subst, arith, map, slice_range, flat_map, take_all}
+use Rattle.std.proofs.Common.{◌≡◌, ℕ, suc, ◌-◌, ◌≤◌, List, [], ◌∷◌, ◌++◌, append_assoc, length, length-append, length-drop, take, drop, take-append-drop, length-take, refl, sym, ap, ◌∙◌, subst, arith, map, slice_range, flat_map, take_all}
 use Rattle.std.proofs.lemmas.List.{take-append-le, drop-append-le, drop_all, map-append, length-map, nil_from_length}
-use Rattle.std.proofs.Math.Seq.{drop-append_seam}
+use Rattle.std.proofs.{lemmas.List.Folds.drop_split, Math.Seq.drop-append_seam}
 use Rattle.cbor_head.specs.declared.major.Major.TheVariants as of_major
 use Rattle.cbor_head.specs.{declared.major.Major.Major, Prelude.in_order, Prelude.shortest_head, declared.order.KeyOrder.KeyOrder}
 use Rattle.theory_values.specs.Parts.{plain, an_array, a_map, a_key, a_string, pair, with_member, with_content, give, opened, extended, close, closed}
@@ -52,15 +52,9 @@ tile_joins out a (s ∷ ss) n t e =
     let r = tile_le s.end ss n t.3 in
     ap (λ (xs : List ℕ). (slice_range out s.key s.val ++ slice_range out s.val s.end) ++ xs) (tile_joins out s.end ss n t.3 e)
     ∙ append_assoc (slice_range out s.key s.val) (slice_range out s.val s.end) (drop s.end out)
-    ∙ ap (λ (xs : List ℕ). slice_range out s.key s.val ++ xs) (part_rest out s.val s.end t.2)
-    ∙ part_rest out s.key s.val t.1
+    ∙ ap (λ (xs : List ℕ). slice_range out s.key s.val ++ xs) (sym (drop_split out s.val s.end t.2))
+    ∙ sym (drop_split out s.key s.val t.1)
     ∙ ap (λ k. drop k out) t.0
-  where
-    part_rest : (out : List ℕ) (a b : ℕ) → a ≤ b → slice_range out a b ++ drop b out ≡ drop a out
-    part_rest out a b h =
-        let n : a + (b - a) ≡ b = omega (arith, h) in
-        let d : drop b out ≡ drop (b - a) (drop a out) = sym (drop-drop (b - a) a out ∙ ap (λ k. drop k out) n) in
-        ap (λ (xs : List ℕ). take (b - a) (drop a out) ++ xs) d ∙ take-append-drop (b - a) (drop a out)
 
 -- ---- one more finished member
 
