@@ -5,7 +5,8 @@
     scripts/limits.py --check    fails if a file states another number, or does not state it as the table says
 
 DECLARED says where each number is declared: a file, and the piece of its text with NUMBER in it. A row of STATED is such a pair
-for a file that repeats the number. Tests have numbers of their own, so that they notice a change.
+for a file that repeats the number. POWER in place of NUMBER is 2 to the power of the number, and OTHER is any other number.
+Tests have numbers of their own, so that they notice a change.
 """
 
 import re
@@ -18,13 +19,13 @@ ROOT = Path(__file__).resolve().parent.parent
 DECLARED = {
     "greatest depth": ("crates/cbor_head/src/limits.rt", "pub const MAX_DEPTH: u16 = NUMBER;"),
     "greatest exponent of bytes": ("crates/cbor_head/src/limits.rt", "bytes <= 1 << NUMBER"),
-    "default depth of the library": ("include/naltvigo.h", "= {UINT64_C(1) << 20, NUMBER, NALTVIGO_BYTEWISE"),
+    "default depth of the library": ("include/naltvigo.h", "= {UINT64_C(1) << OTHER, NUMBER, NALTVIGO_BYTEWISE"),
     "default exponent of bytes": ("include/naltvigo.h", "= {UINT64_C(1) << NUMBER, "),
     "default depth of the program": ("crates/cborc_words/src/cli.rt", '.default_value("NUMBER")'),
     "depth in databases": ("bindings/sql/rules.h", "CBOR_DEPTH = NUMBER,"),
     "exponent of bytes in databases": ("bindings/sql/rules.h", "CBOR_BYTES = 1 << NUMBER }"),
-    "first simple value that does not exist": ("crates/cbor_head/src/simple.rt", "if number < NUMBER ||"),
-    "first simple value in two bytes": ("crates/cbor_head/src/simple.rt", "|| number >= NUMBER {"),
+    "first simple value that does not exist": ("crates/cbor_head/src/simple.rt", "    number < NUMBER ||"),
+    "first simple value in two bytes": ("crates/cbor_head/src/simple.rt", "pub const FIRST_SIMPLE_IN_TWO_BYTES: u64 = NUMBER;"),
 }
 
 STATED = {
@@ -38,6 +39,8 @@ STATED = {
         ("crates/cbor_head/wrong-bodies/greatest_depth_600.edit", "old: pub const MAX_DEPTH: u16 = NUMBER;"),
         ("crates/cbor_diag/specs/Sentences.antt", "the depth limit, which can be at most NUMBER."),
         ("crates/cbor_diag/src/sentences.rt", "the depth limit, which can be at most NUMBER."),
+        ("crates/cborc_words/src/cli.rt", "Limits: depth 0 to NUMBER, bytes"),
+        ("crates/cborc_words/src/cli.rt", "tags may nest, 0 to NUMBER\""),
         ("bindings/rust/src/raw.rs", "pub const DEPTH_MAX: usize = NUMBER;"),
         ("bindings/rust/src/options.rs", "and tags may nest, 0 to NUMBER,"),
         ("bindings/rust/src/options.rs", "depth limit, in levels, 0 to NUMBER."),
@@ -61,15 +64,30 @@ STATED = {
     ],
     "greatest exponent of bytes": [
         ("include/naltvigo.h", "#define NALTVIGO_BYTES_MAX (UINT64_C(1) << NUMBER)"),
+        ("crates/cbor_head/src/limits.rt", "from 0 to 2^NUMBER, and"),
+        ("crates/cbor_head/src/limits.rt", "/// limit above 2^NUMBER."),
         ("crates/cbor_head/src/limits.rt", "(bytes ≤ 2 ^ NUMBER)"),
         ("crates/cbor_head/specs/Limits.antt", "and up to 2^NUMBER bytes"),
+        ("crates/cborc_words/src/byte_counts.rt", "const MOST: u64 = 1 << NUMBER;"),
+        ("crates/cborc_words/specs/ByteCount.antt", "gives at most 2^NUMBER"),
+        ("crates/cborc_words/src/cli.rt", "bytes 0 to POWER"),
+        ("crates/cborc_words/src/cli.rt", "may have, 0 to POWER; K"),
+        ("crates/cborc_words/src/command_line.rt", "from 0 to POWER, with"),
+        ("share/cborc.1", "may have, 0 to POWER. The"),
+        ("bindings/go/options.go", "\tMaxBytes = 1 << NUMBER\n"),
+        ("bindings/js/src/options.js", "BYTES_MAX = 1n << NUMBERn;"),
+        ("bindings/js/src/options.js", "'0 to 2 ** NUMBER'"),
+        ("bindings/rust/src/options.rs", "bytes > 1 << NUMBER {"),
+        ("bindings/rust/src/options.rs", "    bytes: 1 << NUMBER,\n};"),
         ("bindings/rust/src/options.rs", "canonical bytes may have, 0 to 2^NUMBER."),
         ("bindings/rust/src/options.rs", "byte limit, 0 to 2^NUMBER."),
+        ("bindings/rust/README.md", "levels and 2^NUMBER\nbytes."),
         ("bindings/js/src/load.d.ts", "may have: 0 to 2 ** NUMBER, and"),
         ("bindings/python/src/naltvigo/__init__.py", "may have (0 to 2 ** NUMBER)"),
         ("README.md", "levels and 2^NUMBER bytes. Each array"),
         ("docs/COMPARED.md", "bytes 0 to 2^NUMBER ("),
         ("docs/CONTRACTS.md", "number of bytes is at most 2^NUMBER"),
+        ("docs/CONTRACTS.md", "(bytes ≤ 2 ^ NUMBER)"),
     ],
     "default depth of the library": [
         ("include/naltvigo.h", "tags may nest; default NUMBER */"),
@@ -79,18 +97,38 @@ STATED = {
         ("docs/DECISIONS.md", "The default depth is NUMBER in the library"),
         ("docs/SCALE.md", "the Python package, NUMBER levels and"),
         ("README.md", "defaults are NUMBER levels and"),
-        ("bindings/js/src/load.d.ts", "0 to 1024, and NUMBER by default."),
-        ("bindings/go/options.go", "2^20 bytes, NUMBER levels,"),
+        ("bindings/js/src/load.d.ts", "0 to OTHER, and NUMBER by default."),
+        ("bindings/js/src/options.js", " depth: NUMBER, maxBytes"),
+        ("bindings/python/src/naltvigo/_files.py", "depth: int = NUMBER,"),
+        ("bindings/python/src/naltvigo/_native.pyi", "depth: int = NUMBER,"),
+        ("bindings/python/src/naltvigo/_streams.py", "depth: int = NUMBER,"),
+        ("bindings/python/src/native/documentation.c", "depth=NUMBER, max_bytes"),
+        ("bindings/go/options.go", "Depth: NUMBER, Order: Bytewise"),
+        ("bindings/go/options.go", "2^OTHER bytes, NUMBER levels,"),
+        ("bindings/rust/src/options.rs", "            depth: NUMBER,\n"),
+        ("bindings/rust/src/options.rs", "any kind, NUMBER levels,"),
         ("bindings/go/README.md", "keys of any kind, NUMBER levels,"),
         ("bindings/rust/README.md", "keys of any kind, NUMBER levels,"),
     ],
     "default exponent of bytes": [
         ("include/naltvigo.h", "may have; default 2^NUMBER */"),
+        ("docs/C.md", "(OTHER in `cborc`) and 2^NUMBER bytes"),
         ("docs/COMPARED.md", "(2^NUMBER by default)"),
         ("docs/SCALE.md", "levels and 2^NUMBER bytes"),
         ("README.md", "levels and 2^NUMBER bytes. The default"),
-        ("bindings/js/src/load.d.ts", "2 ** 62, and 2 ** NUMBER by default."),
+        ("bindings/js/src/load.d.ts", "2 ** OTHER, and 2 ** NUMBER by default."),
+        ("crates/cborc_words/src/cli.rt", '.default_value("POWER")\n        .help(\n            "How many bytes'),
+        ("share/cborc.1", "The default is POWER. The number"),
+        ("README.md", "levels and 2^NUMBER bytes. The extensions"),
+        ("bindings/js/src/options.js", "maxBytes: 1n << NUMBERn,"),
+        ("bindings/python/src/naltvigo/_files.py", "max_bytes: int = 1 << NUMBER"),
+        ("bindings/python/src/naltvigo/_native.pyi", "max_bytes: int = 1 << NUMBER"),
+        ("bindings/python/src/naltvigo/_streams.py", "max_bytes: int = 1 << NUMBER"),
+        ("bindings/python/src/native/documentation.c", "max_bytes=POWER"),
+        ("bindings/go/options.go", "Bytes: 1 << NUMBER, Depth"),
         ("bindings/go/options.go", "are 2^NUMBER bytes,"),
+        ("bindings/rust/src/options.rs", "            bytes: 1 << NUMBER,\n"),
+        ("bindings/rust/src/options.rs", "OTHER levels, 2^NUMBER bytes"),
         ("bindings/go/README.md", "levels, 2^NUMBER bytes"),
         ("bindings/rust/README.md", "levels, 2^NUMBER bytes"),
     ],
@@ -100,7 +138,7 @@ STATED = {
         ("docs/COMPARED.md", "by default, NUMBER in the program"),
         ("docs/DECISIONS.md", "It is NUMBER in the program"),
         ("README.md", "default of `cborc` is NUMBER levels"),
-        ("web/index.html", 'max="1024" value="NUMBER"'),
+        ("web/index.html", 'id="depth" type="number" min="0" max="OTHER" value="NUMBER"'),
     ],
     "depth in databases": [
         ("bindings/sqlite/README.md", "may have at most NUMBER levels"),
@@ -111,33 +149,41 @@ STATED = {
     "exponent of bytes in databases": [
         ("bindings/sqlite/README.md", "levels and 2^NUMBER bytes"),
         ("bindings/postgresql/README.md", "levels and 2^NUMBER bytes"),
-        ("docs/DECISIONS.md", "(256 levels, 2^NUMBER"),
+        ("docs/DECISIONS.md", "(OTHER levels, 2^NUMBER"),
         ("README.md", "levels and 2^NUMBER bytes. A sequence"),
     ],
     "first simple value that does not exist": [
+        ("crates/cbor_head/src/simple.rt", "and NUMBER to 31 do not exist."),
         ("crates/cbor_head/src/simple.rt", "none for NUMBER to 31, which"),
         ("crates/cbor_head/specs/Head.antt", "(NUMBER ≤ n → "),
+        ("crates/cbor_diag/specs/Sentences.antt", "the values NUMBER to 31 do not exist."),
         ("crates/cbor_diag/src/sentences.rt", "the values NUMBER to 31 do not exist."),
         ("include/naltvigo.h", "a simple value (kind 7) of NUMBER to 31"),
         ("include/naltvigo_writer.h", "The numbers NUMBER to 31 do not exist"),
-        ("bindings/rust/src/value.rs", "NUMBER..=31 => None,"),
+        ("bindings/rust/src/value.rs", "if number < NUMBER ||"),
         ("bindings/rust/src/value.rs", "None for NUMBER to 31, which"),
     ],
     "first simple value in two bytes": [
         ("crates/cbor_head/src/simple.rt", "from 0 to 23 or from NUMBER to 255"),
+        ("crates/cbor_head/wrong-bodies/two_bytes_from_31.edit", "old: pub const FIRST_SIMPLE_IN_TWO_BYTES: u64 = NUMBER;"),
         ("crates/cbor_head/specs/Head.antt", "0 to 23 or NUMBER to 255"),
         ("crates/cbor_head/specs/Head.antt", "(24 ≤ n → NUMBER ≤ n)"),
+        ("crates/cbor_head/src/simple.rt", "0 to 23, or NUMBER to 255."),
+        ("crates/cbor_diag/specs/Sentences.antt", "A simple value below NUMBER must"),
         ("crates/cbor_diag/src/sentences.rt", "A simple value below NUMBER must"),
         ("include/naltvigo.h", "a simple value below NUMBER in two bytes"),
         ("include/naltvigo_writer.h", "0 to 23 or NUMBER to 255."),
+        ("bindings/rust/src/value.rs", "|| number >= NUMBER {"),
         ("bindings/rust/src/value.rs", "0 to 23, or NUMBER to 255."),
         ("bindings/python/src/native/native.h", "number >= 20 && number < NUMBER;"),
         ("bindings/python/src/native/simple.c", "0 to 19, or NUMBER to 255"),
         ("bindings/python/src/native/documentation.c", "0 to 19, or NUMBER to 255."),
+        ("bindings/js/src/values.js", "(number < 20 || number >= NUMBER);"),
         ("bindings/js/src/values.js", "0 to 19, or NUMBER to 255."),
         ("bindings/js/src/values.js", "0 to 19, or NUMBER to 255, and"),
         ("bindings/js/src/load.d.ts", "0 to 19, or NUMBER to 255."),
         ("bindings/go/value.go", "0 to 23 or NUMBER to 255."),
+        ("docs/C.md", "from 0 to 23 or NUMBER to 255."),
         ("docs/TRUST.md", "0 to 23 and NUMBER to 255."),
     ],
 }
@@ -145,8 +191,8 @@ STATED = {
 
 def pattern(text):
     """A piece of text as a regular expression, with the number in a group of its own."""
-    before, after = text.split("NUMBER")
-    return re.compile(f"({re.escape(before)})([0-9][0-9,]*)({re.escape(after)})")
+    before, after = (re.escape(it).replace("OTHER", "[0-9]+") for it in re.split("NUMBER|POWER", text))
+    return re.compile(f"({before})([0-9]+(?:,[0-9]{{3}})*)({after})")
 
 
 def declared(name):
@@ -162,8 +208,8 @@ def stated(number, like):
 def main():
     faults = 0
     for name, rows in STATED.items():
-        number = declared(name)
         for file, text in rows:
+            number = 1 << declared(name) if "POWER" in text else declared(name)
             path, form = ROOT / file, pattern(text)
             now = path.read_text(encoding="utf-8")
             new, count = form.subn(lambda found: found[1] + stated(number, found[2]) + found[3], now)

@@ -39,7 +39,7 @@ function requireObject(options) {
 export function settings(options) {
     if (options === undefined) return DEFAULTS;
     requireObject(options);
-    const { order = 'bytewise', keys = 'any', depth = 64, maxBytes = 1 << 20, ...others } = options;
+    const { order = 'bytewise', keys = 'any', depth = DEFAULTS.depth, maxBytes = DEFAULTS.maxBytes, ...others } = options;
     for (const name of Object.keys(others)) throw new TypeError(`naltvigo: there is no option ${name}`);
     return {
         order: choiceOf(ORDERS, 'order', order),

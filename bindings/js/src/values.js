@@ -12,7 +12,7 @@ export function problemOfTag(number) {
 
 /** Why this is not the number of a simple value; undefined if it is one. */
 export function problemOfSimple(number) {
-    const isOne = Number.isInteger(number) && number >= 0 && number <= 255 && (number < 20 || number > 31);
+    const isOne = Number.isInteger(number) && number >= 0 && number <= 255 && (number < 20 || number >= 32);
     return isOne ? undefined : `a simple value's number is 0 to 19, or 32 to 255, and not ${String(number)}`;
 }
 

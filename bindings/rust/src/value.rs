@@ -62,9 +62,10 @@ impl Simple {
 
     /// None for 24 to 31, which do not exist.
     pub const fn new(number: u8) -> Option<Simple> {
-        match number {
-            24..=31 => None,
-            _ => Some(Simple(number)),
+        if number < 24 || number >= 32 {
+            Some(Simple(number))
+        } else {
+            None
         }
     }
 

@@ -6,7 +6,7 @@ ghost use Rattle.cbor_head.specs.declared.order.KeyOrder.{KeyOrder};
 ghost use Rattle.cbor_cursor.specs.Items.{BeginsWith, IsHeadOf};
 ghost use Rattle.cbor_cursor.specs.WellFormed.{BeginsWithHead, HasNoHead};
 
-use cbor_head::read_argument;
+use cbor_head::{FIRST_SIMPLE_IN_TWO_BYTES, read_argument};
 
 // The first byte of a simple value that has its number in a second byte.
 const SIMPLE_IN_TWO_BYTES: u8 = 0xf8;
@@ -44,8 +44,7 @@ pub(crate) fn definite_head(bytes: &[u8], offset: usize) -> Option<HeadAt>
     }
     let first = bytes[offset];
     let argument = read_argument(first % 32, &bytes[offset + 1..])?;
-    // A simple value below 32 has a head of one byte (section 3.3).
-    if first == SIMPLE_IN_TWO_BYTES && argument.number < 32 {
+    if first == SIMPLE_IN_TWO_BYTES && argument.number < FIRST_SIMPLE_IN_TWO_BYTES {
         return None;
     }
     Some(HeadAt {

@@ -7,7 +7,7 @@ ghost use Rattle.cbor_head.specs.declared.major.Major.{Major};
 ghost use Rattle.cbor_head.specs.declared.major.Major.TheVariants.{Simple};
 ghost use Rattle.cbor_head.specs.declared.width.Width.{Width};
 
-use crate::{Major, Width, read_argument};
+use crate::{FIRST_SIMPLE_IN_TWO_BYTES, Major, Width, read_argument};
 use arrayvec::ArrayVec;
 use byteorder::{BigEndian, ByteOrder};
 use std::marker::Model;
@@ -149,7 +149,7 @@ fn is_head(major: Major, width: Width, argument: u64) -> bool
 {
     match (major, width) {
         (Major::Simple, Width::Direct) => true,
-        (Major::Simple, Width::One) => argument >= 32,
+        (Major::Simple, Width::One) => argument >= FIRST_SIMPLE_IN_TWO_BYTES,
         (Major::Simple, _) => false,
         _ => true,
     }

@@ -44,5 +44,5 @@ pub use limits::{Limits, MAX_DEPTH};
 pub use major::Major;
 pub use order::KeyOrder;
 pub use reason::{Reason, Refusal};
-pub use simple::Simple;
+pub use simple::{FIRST_SIMPLE_IN_TWO_BYTES, Simple, is_simple};
 pub use width::Width;

@@ -1,9 +1,13 @@
 //! Simple values.
 
-ghost use Rattle.std.specs.Prelude.{◌≡◌, ◌↔◌, ℕ, IsSome, IfSome};
+ghost use Rattle.std.specs.Prelude.{◌≡◌, ◌↔◌, ℕ, IsTrue, IsSome, IfSome};
 ghost use Rattle.cbor_head.specs.Head.{IsSimple};
 
 use std::marker::Model;
+
+/// The first simple value whose number is in a byte of its own (RFC 8949, section 3.3). Those up to
+/// 23 are in the initial byte, and 24 to 31 do not exist.
+pub const FIRST_SIMPLE_IN_TWO_BYTES: u64 = 32;
 
 /// A simple value: a number from 0 to 23 or from 32 to 255 (RFC 8949, section 3.3).
 #[derive(Clone, Copy, Debug, PartialEq, Eq)]
@@ -27,7 +31,7 @@ impl Simple {
         ensures exists { IsSome result ↔ IsSimple number }
         ensures value { IfSome result (λ s. s ≡ number) }
     {
-        if number < 24 || number >= 32 {
+        if is_simple(u64::from(number)) {
             Some(Simple { number })
         } else {
             None
@@ -41,4 +45,12 @@ impl Simple {
     {
         self.number
     }
+}
+
+/// Whether a simple value has this number.
+#[inline(always)]
+pub fn is_simple(number: u64) -> bool
+    ensures { IsTrue result ↔ IsSimple number }
+{
+    number < 24 || (number >= FIRST_SIMPLE_IN_TWO_BYTES && number < 256)
 }

@@ -15,7 +15,7 @@ ghost use Rattle.cbor_machine.specs.State.{IsNextReason, IsSettled, is_done, hea
 use crate::container_stack::{ContainerStack, Slot};
 use crate::opening::{ArgumentType, Opening, opening_of};
 use crate::position::{Position, after, chunk_payload, close, finish_string, has_space};
-use cbor_head::{EventKind, Reason, Simple, Width, initial_byte_reason};
+use cbor_head::{EventKind, FIRST_SIMPLE_IN_TWO_BYTES, Reason, Simple, Width, initial_byte_reason};
 
 /// The result of a byte.
 #[derive(Clone, Copy)]
@@ -276,7 +276,7 @@ pub(crate) fn take_byte(
             }
         }
         Position::SimpleNumber => match Simple::new(c) {
-            Some(simple) if c >= 32 => Next::Reports(
+            Some(simple) if u64::from(c) >= FIRST_SIMPLE_IN_TWO_BYTES => Next::Reports(
                 Width::One,
                 EventKind::Simple(simple),
                 close(container_stack),

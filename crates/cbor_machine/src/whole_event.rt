@@ -22,7 +22,7 @@ use crate::container_stack::ContainerStack;
 use crate::opening::{ArgumentType, numbered_at};
 use crate::position::{Position, enter, finish, finish_string, has_space};
 use crate::token::Token;
-use cbor_head::{Width, read_argument};
+use cbor_head::{FIRST_SIMPLE_IN_TWO_BYTES, Width, read_argument};
 
 // The low five bits of a first byte whose argument has one byte more than `left`.
 fn low_bits(left: u8) -> Option<u8>
@@ -113,7 +113,7 @@ pub(crate) fn prefix_head(
     let used = rest.len() - argument.rest.len();
     let (width, number) = (argument.width, argument.number);
     if c >= 0xe0 {
-        if low > 24 || low == 24 && number < 32 {
+        if low > 24 || low == 24 && number < FIRST_SIMPLE_IN_TWO_BYTES {
             return None;
         }
         return Some(DefiniteHead {

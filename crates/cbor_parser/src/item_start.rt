@@ -13,7 +13,9 @@ ghost use Rattle.cbor_parser.specs.Strings.{IsStringHead, IsStringWhole, IsStrin
 use crate::chunk_refusal::chunks_fault;
 use crate::container::Expected;
 use crate::kinds::begins_other_kind;
-use cbor_head::{Argument, Reason, Refusal, initial_byte_error, read_argument};
+use cbor_head::{
+    Argument, FIRST_SIMPLE_IN_TWO_BYTES, Reason, Refusal, initial_byte_error, read_argument,
+};
 use cbor_text::check_text;
 
 /// What is known of the position where an item is expected.
@@ -71,7 +73,7 @@ pub(crate) fn item_start(rest: &[u8], at: usize, here: Here, is_strict: bool) ->
     let Some(head) = read_argument(low, behind) else {
         return ItemStart::Refused(refusal_at(Reason::Truncated, end, end));
     };
-    if first == 0xf8 && head.number < 32 {
+    if first == 0xf8 && head.number < FIRST_SIMPLE_IN_TWO_BYTES {
         return ItemStart::Refused(refusal_at(Reason::BadSimple, at + 1, at + 2));
     }
     let used = rest.len() - head.rest.len();

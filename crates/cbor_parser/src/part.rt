@@ -18,7 +18,7 @@ use crate::open_container::OpenContainer;
 use crate::parser::{Parser, SinkStop};
 use crate::sink::Sink;
 use crate::stack::Stack;
-use cbor_head::{Keys, Major, read_argument};
+use cbor_head::{FIRST_SIMPLE_IN_TWO_BYTES, Keys, Major, read_argument};
 
 impl<S> Parser<S> {
     /// Takes what is at the start of `rest`, except a key of another kind if kinds are judged.
@@ -98,7 +98,7 @@ impl<S> Parser<S> {
                 )
             }
             _ => {
-                if low > 24 || low == 24 && number < 32 {
+                if low > 24 || low == 24 && number < FIRST_SIMPLE_IN_TWO_BYTES {
                     return Part::Untaken;
                 }
                 self.give_leaf(&stack.top, Major::Simple, number, rest, behind)

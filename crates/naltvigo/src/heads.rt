@@ -1,6 +1,6 @@
 //! The heads that a caller puts before its own bytes.
 
-ghost use Rattle.std.specs.Prelude.{◌≡◌, ◌≢◌, ◌↔◌, ◌⊎◌, ◌<◌, ◌≤◌, ℕ, List, IsTrue, IfSome, None};
+ghost use Rattle.std.specs.Prelude.{◌≡◌, ◌≢◌, ◌⊎◌, ◌<◌, ◌≤◌, ℕ, List, IfSome, None};
 ghost use Rattle.std.specs.Prelude.{length, take, drop};
 ghost use Rattle.cbor_head.specs.Head.{IsHead, IsSimple, head_parts, major_number, shortest};
 ghost use Rattle.cbor_head.specs.declared.major.Major.TheVariants.{Simple};
@@ -8,7 +8,7 @@ ghost use Rattle.naltvigo.specs.Heads.{HasHead, IsShortestHead};
 
 use crate::buffer::give;
 use crate::status::{BAD_HEAD, OK, TOO_SMALL};
-use cbor_head::{Head, Major};
+use cbor_head::{Head, Major, is_simple};
 
 /// Writes the shortest head of this kind, a major type, and this number to the prefix of `out`.
 ///
@@ -65,11 +65,4 @@ pub(crate) fn major_with(kind: u32, number: u64) -> Option<Major>
         return None;
     }
     Some(Major::of_number(kind as u8))
-}
-
-// Whether a simple value has this number.
-fn is_simple(number: u64) -> bool
-    ensures { IsTrue result ↔ IsSimple number }
-{
-    number < 24 || (number >= 32 && number < 256)
 }

@@ -8,7 +8,7 @@ from os import PathLike
 from typing import TYPE_CHECKING, Any, Literal, Protocol, Union, overload
 
 from . import _native
-from ._native import Tag
+from ._native import TRUNCATED, Tag
 from ._refused import Refused
 
 if TYPE_CHECKING:
@@ -28,7 +28,6 @@ if TYPE_CHECKING:
     Order = Literal["bytewise", "length"]
     Keys = Literal["any", "basic"]
 
-TRUNCATED = 1
 PART = 1 << 16
 
 

@@ -16,6 +16,8 @@ VERSION: str
 OK: int
 EVENT: int
 MORE: int
+TRUNCATED: int
+TRAILING: int
 
 _Key = TypeVar("_Key")
 _Value = TypeVar("_Value", covariant=True)

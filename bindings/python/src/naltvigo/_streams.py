@@ -6,7 +6,7 @@ from collections.abc import Iterable, Iterator
 from typing import TYPE_CHECKING, Any, NamedTuple
 
 from ._files import Reader, is_buffer
-from ._native import EVENT, MORE, OK, Checker, Machine, check_canonical, refusal, start_machine
+from ._native import EVENT, MORE, OK, TRAILING, TRUNCATED, Checker, Machine, check_canonical, refusal, start_machine
 
 if TYPE_CHECKING:
     from _typeshed import ReadableBuffer
@@ -14,8 +14,6 @@ if TYPE_CHECKING:
     from ._files import Keys, Order, Source
 
 KINDS = ("unsigned", "negative", "bytes", "text", "array", "map", "tag", "simple", "chunk", "piece", "break")
-
-TRUNCATED, TRAILING = 1, 12
 
 
 class Event(NamedTuple):

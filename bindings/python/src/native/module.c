@@ -65,6 +65,8 @@ static int add_names(PyObject *module, const struct state *state) {
            PyModule_AddIntConstant(module, "OK", NALTVIGO_OK) ||
            PyModule_AddIntConstant(module, "EVENT", NALTVIGO_EVENT) ||
            PyModule_AddIntConstant(module, "MORE", NALTVIGO_MORE) ||
+           PyModule_AddIntConstant(module, "TRUNCATED", NALTVIGO_TRUNCATED) ||
+           PyModule_AddIntConstant(module, "TRAILING", NALTVIGO_TRAILING) ||
            add(module, "VERSION", PyUnicode_FromFormat("%u.%u.%u", version >> 16, version >> 8 & 255, version & 255));
 }
 

@@ -21,13 +21,13 @@ returns-in_err-argument-clause-head c = rw c.from_residual.ensures (λ kind argu
     let r = read_at bytes c.args.offset kind argument content (omega (arith, c.if-offset-bytes.false)) b in
     omega (arith, r.space (c.in_err-argument.ensures.long refl), ap length (take_rest bytes (c.args.offset + 1)), c.in_err-argument.ensures.cut refl r.low))
 
-pub returns-then-argument-lt32-clause-head : goal.returns-then-argument-lt32-clause-head
-returns-then-argument-lt32-clause-head c = λ kind argument content b.
+pub returns-then-argument-lt-FIRST_SIMPLE_IN_TWO_BYTES-clause-head : goal.returns-then-argument-lt-FIRST_SIMPLE_IN_TWO_BYTES-clause-head
+returns-then-argument-lt-FIRST_SIMPLE_IN_TWO_BYTES-clause-head c = λ kind argument content b.
     let bytes = c.args.bytes.now in
     let a = c.in_ok-argument.argument in
     let r = read_at bytes c.args.offset kind argument content (omega (arith, c.if-offset-bytes.false)) b in
     let same = r.only a.width a.number a.rest.now (argument_at bytes c.args.offset a.width a.number a.rest.now c.in_ok-argument.ensures.spelled) in
-    omega (arith, r.simple c.if-first.true, same.0, c.if-argument-lt32.true)
+    omega (arith, r.simple c.if-first.true, same.0, c.if-argument-lt-FIRST_SIMPLE_IN_TWO_BYTES.true)
 
 pub returns-clause-head : goal.returns-clause-head
 returns-clause-head c =

@@ -21,7 +21,7 @@ returns-then-c-ge224-clause-here c = record {
   used = refl;
   small = omega arith;
   space = λ low. absurd (omega arith);
-  simple = λ high. (c.if-low-gt24.false, λ e. elim c.if-number-lt32.either [ inl h ↦ h.1 | inr h ↦ absurd (omega arith) ]);
+  simple = λ high. (c.if-low-gt24.false, λ e. elim c.if-number-lt-FIRST_SIMPLE_IN_TWO_BYTES.either [ inl h ↦ h.1 | inr h ↦ absurd (omega arith) ]);
 }
 
 pub returns-clause-here : goal.returns-clause-here

@@ -10,7 +10,7 @@ use Rattle.cbor_parser.proofs.Faults.{texts_asked, kinds_asked, heads_asked, qui
 use Rattle.cbor_parser.proofs.item_start.item_start.Goals as goal
 use Rattle.cbor_parser.proofs.item_start.item_start.Goals.{After-initial_byte_error, Joined-else-here-2, Joined-else-first-2, Joined-else-is_strict, Then-first-lt128}
 use Rattle.cbor_parser.proofs.item_start.item_start.Goals.{else-first-via-then-first+else-here, else-first-via-else-first, else-here-2-via-then-here-2+else-begins_other_kind, else-here-2-via-else-here-2}
-use Rattle.cbor_parser.proofs.item_start.item_start.Goals.{else-first-2-via-then-first-2+else-head-lt32, else-first-2-via-else-first-2, else-is_strict-via-then-is_strict+else-not-is_shortest, else-is_strict-via-else-is_strict, then-first-lt64-via-then-first-lt64, then-first-lt64-via-else-first-lt64+then-first-ge224}
+use Rattle.cbor_parser.proofs.item_start.item_start.Goals.{else-first-2-via-then-first-2+else-head-lt-FIRST_SIMPLE_IN_TWO_BYTES, else-first-2-via-else-first-2, else-is_strict-via-then-is_strict+else-not-is_shortest, else-is_strict-via-else-is_strict, then-first-lt64-via-then-first-lt64, then-first-lt64-via-else-first-lt64+then-first-ge224}
 use Rattle.cbor_parser.specs.{Strings.IsStringHead, declared.container.Expected.TheVariants.Item, declared.container.Expected.TheVariants.Key}
 use Rattle.cbor_parser.proofs.AnyRefusals.{answers}
 
@@ -27,7 +27,7 @@ fit c e = elim c.else-here-2.branch [
 
 -- a simple value in two bytes is one
 wide : (c : Joined-else-first-2) → c.in-Some.first.now ≡ 0xf8 → 32 ≤ c.in-Some-read_argument.head.number
-wide c e = elim c.else-first-2.branch [ else-first-2-via-then-first-2+else-head-lt32 w ↦ w.if-head-lt32.false | else-first-2-via-else-first-2 w ↦ absurd (w.if-first-2.false e) ]
+wide c e = elim c.else-first-2.branch [ else-first-2-via-then-first-2+else-head-lt-FIRST_SIMPLE_IN_TWO_BYTES w ↦ w.if-head-lt-FIRST_SIMPLE_IN_TWO_BYTES.false | else-first-2-via-else-first-2 w ↦ absurd (w.if-first-2.false e) ]
 
 -- the head is the shortest, if that is required
 short : (c : Joined-else-is_strict) → c.args.is_strict ≡ true → c.in-Some-read_argument.head.width ≡ shortest c.in-Some-read_argument.head.number
@@ -76,14 +76,14 @@ returns-in_default-read_argument-clause-refused c = λ r rules.
     (fault_of r c.in-Some.first.now c.in-Some.behind.now a.at a.here (no_break at.After-initial_byte_error) _ (fit at.Joined-else-here-2)
     (cut_here r a.here.space c.in-Some.first.now c.in-Some.behind.now a.at (none.long refl) low placed.no_float placed.fits (none.cut refl low) (a.at + length a.rest.now) (ap (λ (x : List ℕ). a.at + length x) split)))
 
-pub returns-then-head-lt32-clause-refused : goal.returns-then-head-lt32-clause-refused
-returns-then-head-lt32-clause-refused c = λ r rules.
+pub returns-then-head-lt-FIRST_SIMPLE_IN_TWO_BYTES-clause-refused : goal.returns-then-head-lt-FIRST_SIMPLE_IN_TWO_BYTES-clause-refused
+returns-then-head-lt-FIRST_SIMPLE_IN_TWO_BYTES-clause-refused c = λ r rules.
     let a = c.args in
-    let at = goal.at.returns-then-head-lt32-clause-refused c in
+    let at = goal.at.returns-then-head-lt-FIRST_SIMPLE_IN_TWO_BYTES-clause-refused c in
     let h = c.in-Some-read_argument.head in
-    fault_same r a.rest.now (c.in-Some.first.now ∷ c.in-Some.behind.now) a.at a.here _ c.refusal_at-then-head-lt32.result c.in-Some.ensures.cases.0 c.refusal_at-then-head-lt32.ensures
+    fault_same r a.rest.now (c.in-Some.first.now ∷ c.in-Some.behind.now) a.at a.here _ c.refusal_at-then-head-lt-FIRST_SIMPLE_IN_TWO_BYTES.result c.in-Some.ensures.cases.0 c.refusal_at-then-head-lt-FIRST_SIMPLE_IN_TWO_BYTES.ensures
     (fault_of r c.in-Some.first.now c.in-Some.behind.now a.at a.here (no_break at.After-initial_byte_error) _ (fit at.Joined-else-here-2)
-    (no_simple_here r a.here.space c.in-Some.first.now c.in-Some.behind.now a.at h.width h.number h.rest.now c.in-Some-read_argument.ensures.spelled c.if-first-2.true c.if-head-lt32.true))
+    (no_simple_here r a.here.space c.in-Some.first.now c.in-Some.behind.now a.at h.width h.number h.rest.now c.in-Some-read_argument.ensures.spelled c.if-first-2.true c.if-head-lt-FIRST_SIMPLE_IN_TWO_BYTES.true))
 
 pub returns-then-not-is_shortest-clause-refused : goal.returns-then-not-is_shortest-clause-refused
 returns-then-not-is_shortest-clause-refused c = λ r rules.
