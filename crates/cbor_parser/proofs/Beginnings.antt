@@ -1,14 +1,13 @@
 -- What may begin where an item is expected, and what is left there because nothing does.
-use Rattle.std.proofs.Common.{◌≡◌, ◌≢◌, ◌⊎◌, ℕ, ◌+◌, ◌-◌, ◌*◌, ◌/◌, ◌%◌, ◌^◌, ◌<◌, ◌≤◌, Bool, true, false, List, [], ◌∷◌, ◌++◌, length, take, drop, refl, sym, ap, ◌∙◌, subst, inl, inr, arith, IsUtf8, length-append}
+use Rattle.std.proofs.Common.{◌≡◌, ◌≢◌, ◌⊎◌, ℕ, ◌+◌, ◌-◌, ◌*◌, ◌/◌, ◌%◌, ◌^◌, ◌<◌, ◌≤◌, Bool, true, false, List, [], ◌∷◌, length, drop, sym, ap, ◌∙◌, subst, inl, inr, arith, length-append}
 use Rattle.cbor_head.specs.Prelude.{Holds, head, major_number}
 use Rattle.cbor_head.specs.Head as heads
-use Rattle.cbor_head.specs.declared.{keys.Keys.Keys, keys.Keys.TheVariants.IntegersAndTexts, width.Width.Width, major.Major.TheVariants.Unsigned}
-use Rattle.cbor_head.{specs.Argument.IsArgument, proofs.Arguments.reads_head, proofs.WholeHead.one_head}
+use Rattle.cbor_head.specs.{declared.keys.Keys.Keys, declared.width.Width.Width, declared.major.Major.TheVariants.Unsigned, Argument.IsArgument}
+use Rattle.cbor_head.proofs.{Arguments.reads_head, WholeHead.one_head}
 use Rattle.theory_values.proofs.ReadLaws.{length_head}
 use Rattle.theory_verdicts.specs.{PathKinds.IsFitPrefix, Reading.string_major}
-use Rattle.cbor_parser.specs.inner.Begins.{AreWholeChunks, at_break, a_chunk, HasHead, BeginsItem, Begins, NothingBegins, IsAllowed, IsFull, IsLeft}
-use Rattle.cbor_parser.specs.{declared.container.Expected.TheVariants.Key, declared.item_start.Here.Here, inner.OpenContainer.Cell}
-use Rattle.cbor_parser.specs.inner.Parts.{IsHead, IsWholePayload}
+use Rattle.cbor_parser.specs.inner.Begins.{AreWholeChunks, at_break, a_chunk, HasHead, BeginsItem, Begins, NothingBegins, IsFull, IsLeft}
+use Rattle.cbor_parser.specs.{declared.item_start.Here.Here, inner.OpenContainer.Cell, inner.Parts.IsHead, inner.Parts.IsWholePayload}
 
 -- ---- one argument follows the low bits of a first byte
 
@@ -68,17 +67,6 @@ what-begins here rest first behind is b =
     subst (λ (x : List ℕ). IsWhat here first x) g (subst (λ (x : ℕ). IsWhat here x b.behind) f
     (elim b.what [ inl x ↦ inl x | inr x ↦ inr (x.0, λ e. subst IsFitPrefix b.is (x.1 e)) ]))
 
-pub nothing-left : (rest : List ℕ) → rest ≡ [] → NothingBegins rest
-nothing-left rest none here b = cc (sym none ∙ b.is)
-
--- a key of a kind that is not allowed
-pub unfit-left : (keys : Keys) (depth : ℕ) (top : Cell) (height : ℕ) (rest : List ℕ) → (keys ≡ IntegersAndTexts) → (top.expected ≡ Key) → (IsFitPrefix rest → ⊥) → (here : Here) → IsAllowed keys depth top height here → Begins here rest → ⊥
-unfit-left keys depth top height rest kinds key unfit here allowed b =
-    elim b.what [
-      | inl x ↦ unfit (subst IsFitPrefix (sym (b.is ∙ ap (λ (f : ℕ). f ∷ b.behind) x.0)) (inr refl))
-      | inr x ↦ unfit (x.1 (allowed.key kinds key))
-    ]
-
 module _ (first : ℕ) (behind rest : List ℕ) (is : rest ≡ first ∷ behind) where
   -- the argument is incomplete
   pub cut-left : 24 ≤ first % 32 → first % 32 < 28 → length behind < 2 ^ (first % 32 - 24) → NothingBegins rest
@@ -121,17 +109,6 @@ module _ (first : ℕ) (behind rest : List ℕ) (is : rest ≡ first ∷ behind)
   float-left high byte low here b = elim (what-begins here rest first behind is b) [
     | inl x ↦ absurd (omega (arith, x.0, low))
     | inr x ↦ let may = x.0.may.no_float in absurd (omega (arith, high, byte, may))
-  ]
-
-  -- what has no length is no array, map or string
-  pub indefinite-left : (keys : Keys) (depth : ℕ) (top : Cell) (height : ℕ) → 27 < first % 32 → first ≢ 0x5f → first ≢ 0x7f → first ≢ 0x9f → first ≢ 0xbf → (first ≡ 0xff → (here : Here) → IsAllowed keys depth top height here → here.may_break ≡ true → ⊥)
-      → (here : Here) → IsAllowed keys depth top height here → Begins here rest → ⊥
-  indefinite-left keys depth top height low bytes text array map none here allowed b = elim (what-begins here rest first behind is b) [
-    | inl x ↦ none x.0 here allowed x.1
-    | inr x ↦ elim x.0.may.low [
-      | inl l ↦ absurd (omega (arith, l, low))
-      | inr l ↦ absurd (omega (arith, l.0, l.1, l.2, bytes, text, array, map))
-    ]
   ]
 
   -- a container that is not opened

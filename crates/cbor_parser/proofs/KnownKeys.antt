@@ -1,7 +1,7 @@
 -- Of an item that is known to be valid, no two keys of an open map are the same.
-use Rattle.std.proofs.Common.{◌≡◌, ℕ, zero, suc, ◌^◌, ◌<◌, ◌≤◌, Bool, List, [], ◌∷◌, ◌++◌, length, refl, sym, ◌∙◌, inl, inr, arith, append_assoc}
+use Rattle.std.proofs.Common.{◌≡◌, ℕ, zero, suc, ◌^◌, ◌<◌, ◌≤◌, List, [], ◌∷◌, ◌++◌, length, refl, ◌∙◌, inr, arith, append_assoc}
 use Rattle.cbor_head.specs.{Prelude.plain, Prelude.Bounds, declared.order.KeyOrder.KeyOrder, declared.order.KeyOrder.TheVariants.Bytewise}
-use Rattle.cbor_builder.specs.Built.{keys_so_far, IsRepeatAt, AreAllDifferent, AreOpenKeysDifferent, open_maps}
+use Rattle.cbor_builder.specs.Built.{keys_so_far, IsRepeatAt, AreOpenKeysDifferent, open_maps}
 use Rattle.theory_verdicts.specs.Levels.{Level, level_bytes, AreLevels, bytes_before}
 use Rattle.theory_verdicts.{specs.Given.level_open, specs.Given.opens, specs.Kinds.KeepsToKinds, proofs.KindFrames.keeps_prefix}
 use Rattle.theory_verdicts.proofs.LevelFrames.{begins_before}

@@ -58,10 +58,6 @@ module _ (S : Type 0) (stands : S → S → ParseState → Type 0) (trusts : Boo
   pub repeats : (w : WalkStop SinkStop) (rest : Bor (List ℕ)) → w ≡ walks.Stopped rest stop.Repeated → Stopped w → IsRepeatVisited S stands trusts now.repeat limits.depth input cs rest.now × KeepsBefore limits.depth limits.keys input rest.now
   repeats w rest e h = subst Stopped e h
 
-  -- its request was refused
-  pub lacks-memory : (w : WalkStop SinkStop) (rest : Bor (List ℕ)) → w ≡ walks.Stopped rest stop.Memory → Stopped w → lacked now.sink
-  lacks-memory w rest e h = subst Stopped e h
-
 -- ---- nothing that is allowed begins where it stops
 
 module _ (S : Type 0) (stands : S → S → ParseState → Type 0) (trusts : Bool) (holds : S → S → List Level → Bool → List ℕ → Type 0) (lacked : S → Type 0) (first now : Parser S) (limits : Bounds) (input : List ℕ) (k : Stack Cell) (cells : List Cell) (low : k.height ≤ length cells) where

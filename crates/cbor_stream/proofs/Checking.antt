@@ -19,10 +19,6 @@ map_some : (o : Option Refusal) (P Q : Refusal → Type 0) → ((f : Refusal) �
 map_some None P Q h p = tt
 map_some (Some f) P Q h p = h f p
 
-all_some : (o : Option Refusal) (P : Refusal → Type 0) → ((f : Refusal) → P f) → IfSome o P
-all_some None P h = tt
-all_some (Some f) P h = h f
-
 -- nothing is taken, and the same is returned
 pub again_so : (old now new : StrictMachineView) (out : Out) (used more : ℕ) → IfSome old.refusal (λ f. (now ≡ old) × (used ≡ 0)) → IfSome now.refusal (λ f. (out ≡ outs.Refused f) × (more ≡ 0) × (new ≡ now))
     → IfSome old.refusal (λ f. (out ≡ outs.Refused f) × (used + more ≡ 0) × (new ≡ old))
@@ -47,19 +43,6 @@ pub record IsChecked (old now : StrictMachineView) (input : List ℕ) (used : �
   pub runs : (t : List ℕ) (ms : List Mark) → StandsAmid old t ms → (ns : List Mark) × StandsAmid now (t ++ take used input) ns
   pub same : IfSome old.refusal (λ f. (now ≡ old) × (used ≡ 0))
   pub complete : IsComplete old.machine → old.refusal ≡ None → (now ≡ old) × (used ≡ 0)
-
-pub checked_first : (v : StrictMachineView) (input : List ℕ) → IsChecked v v input 0
-checked_first v input = record {
-  within = omega arith;
-  taken = omega arith;
-  depth = refl;
-  bytes = refl;
-  order = refl;
-  keys = refl;
-  runs = λ t ms h. (ms, subst (λ (x : List ℕ). StandsAmid v x ms) (sym (append-nil t)) h);
-  same = all_some v.refusal (λ f. (v ≡ v) × (0 ≡ 0)) (λ f. (refl, refl));
-  complete = λ is live. (refl, refl);
-}
 
 module _ (old now new : StrictMachineView) (input : List ℕ) (used more : ℕ) (h : IsChecked old now input used) (fits : more ≤ length (rest_from used input)) (taken : new.machine.taken ≡ now.machine.taken + more) (limits : KeepsLimits now.machine new.machine) (order : new.order ≡ now.order) (keys : new.keys ≡ now.keys) where
   pub within_so : used + more ≤ length input

@@ -1,5 +1,5 @@
 -- What is given to the machine: the first byte of a key whose kind is judged alone, or what is no such byte.
-use Rattle.std.proofs.Common.{◌≡◌, ◌≢◌, ℕ, ◌+◌, ◌-◌, ◌<◌, ◌≤◌, ◌⊎◌, Bool, true, false, true≢false, Option, List, [], ◌∷◌, ◌++◌, length, take, drop, min, refl, sym, ap, ◌∙◌, subst, inl, inr, arith, append_assoc, length-append, length-take, take-take}
+use Rattle.std.proofs.Common.{◌≡◌, ℕ, ◌+◌, ◌-◌, ◌<◌, ◌≤◌, ◌⊎◌, Bool, true, false, true≢false, Option, List, [], ◌∷◌, ◌++◌, length, take, drop, min, refl, sym, ap, ◌∙◌, subst, inl, inr, arith, append_assoc, length-append, length-take, take-take}
 use Rattle.std.proofs.lemmas.Bool.{cases_lt}
 use Rattle.cbor_head.specs.{declared.event.Event.Event, Prelude.Bounds, Prelude.spell, declared.keys.Keys.Keys, declared.reason.Refusal.Refusal}
 use Rattle.theory_automaton.specs.Automaton as automaton

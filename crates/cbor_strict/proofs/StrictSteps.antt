@@ -143,7 +143,3 @@ pub live_of : (v : OpenItems) (b : Bounds) (e : ItemEventsView) (t : List ℕ) �
 live_of v b e t (inl h) = h.at.live
 live_of v b e t (inr (inl h)) = h.at.live
 live_of v b e t (inr (inr h)) = h.at.live
-
-pub piece_is : (kind : EventKind) → IsPiece kind → (n : ℕ) × (kind ≡ kinds.Piece n)
-piece_is (kinds.Piece n) h = (n, refl)
-piece_is _ h = absurd h

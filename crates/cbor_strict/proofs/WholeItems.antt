@@ -1,17 +1,17 @@
 -- An item that was read at once: how it ends, and what is known of it.
-use Rattle.std.proofs.Common.{◌≡◌, ℕ, suc, ◌+◌, ◌-◌, ◌<◌, ◌≤◌, List, [], ◌∷◌, ◌++◌, length, take, refl, sym, ap, ◌∙◌, subst, inl, inr, arith, append-nil, length-append, length-take, take-take}
+use Rattle.std.proofs.Common.{◌≡◌, ℕ, ◌-◌, ◌≤◌, List, [], ◌∷◌, ◌++◌, length, take, refl, sym, ap, ◌∙◌, inl, inr, arith, append-nil, length-append, length-take, take-take}
 use Rattle.std.proofs.Math.Seq.{take-append_seam}
-use Rattle.cbor_head.specs.Prelude.{Bounds, Spelling, SpelledEntries, no_spellings, no_entries, spell, IsSpelled, depth, IsItem, strict, Complaint, Complains, OfKinds}
-use Rattle.cbor_head.specs.declared.{keys.Keys.TheVariants.IntegersAndTexts, order.KeyOrder.KeyOrder, width.Width.Width}
+use Rattle.cbor_head.specs.Prelude.{Bounds, Spelling, no_spellings, no_entries, spell, depth, IsItem, strict, Complaint, Complains, OfKinds}
+use Rattle.cbor_head.specs.declared.{keys.Keys.TheVariants.IntegersAndTexts, order.KeyOrder.KeyOrder}
 use Rattle.theory_values.proofs.{Accepted.accepts_exactly, BasicKeys.none_of_kinds, BasicKeys.has_basic_keys, Theorems.strict_exactly}
 use Rattle.cbor_machine.specs.NextEvent.{ItemEventsView}
 use Rattle.theory_verdicts.specs.Frame.{Frame, a_member, a_key, a_content, tagged}
-use Rattle.theory_verdicts.specs.{Readers.IsRead, Place.at_item, Place.close, Reading.IsAt, Kinds.IsKeyExpected, Kinds.KeepsToKinds}
+use Rattle.theory_verdicts.specs.{Readers.IsRead, Place.close, Reading.IsAt, Kinds.IsKeyExpected, Kinds.KeepsToKinds}
 use Rattle.theory_verdicts.proofs.{Accepted.item_within_limit, KindFrames.expected_last, KindFrames.keeps_on}
-use Rattle.cbor_strict.specs.inner.LastKeys.{view_value, from_outside, keys_around, still_open, IsKept}
+use Rattle.cbor_strict.specs.inner.LastKeys.{view_value, from_outside, keys_around, still_open}
 use Rattle.cbor_strict.specs.inner.OpenItems.{frames_in, bytes_before, IsItemExpected, HasEnded, Stands}
 use Rattle.cbor_strict.specs.declared.last_keys.Expected.TheVariants.{Member, Key, Value}
-use Rattle.cbor_strict.proofs.OpenStates.{Closing, HasClosed, has_closed, by_key, behind_member}
+use Rattle.cbor_strict.proofs.OpenStates.{Closing, has_closed, by_key, behind_member}
 use Rattle.cbor_strict.specs.declared.{last_keys.Expected.Expected, last_keys.LastKeys.LastKeys, open_items.OpenItems.OpenItems}
 use Rattle.cbor_strict.proofs.{KeptKeys.kept_out, KeptKeys.in_no_key, OpenBegins.expects, OpenEnds.frames_length}
 

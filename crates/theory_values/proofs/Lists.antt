@@ -1,5 +1,5 @@
 -- Lists of members and of pairs as a loop sees them step by step: counted, valid, met. What is left decides the whole, W.
-use Rattle.std.proofs.Common.{◌≡◌, ℕ, zero, suc, ◌+◌, ◌-◌, ◌<◌, ◌≤◌, List, [], ◌∷◌, ◌++◌, length, take, drop, map, get_or, slice_range, ◌↔◌, ◌⊎◌, inl, inr, refl, sym, ap, ◌∙◌, subst, arith, take-append-drop}
+use Rattle.std.proofs.Common.{◌≡◌, ℕ, zero, suc, ◌-◌, ◌<◌, List, [], ◌∷◌, ◌++◌, length, take, drop, map, get_or, slice_range, ◌↔◌, ◌⊎◌, inl, inr, refl, sym, ap, ◌∙◌, subst, arith, take-append-drop}
 use Rattle.std.proofs.lemmas.List.{take_rest}
 use Rattle.cbor_head.specs.Prelude.{Value, Entries, Same, Covered, AnyEntry, IsValid, AreEntriesValid, values_count}
 use Rattle.cbor_head.specs.Value.{entries_count}

@@ -13,12 +13,11 @@ use Rattle.theory_automaton.proofs.FirstByte.{split}
 use Rattle.theory_verdicts.proofs.Heads.{open_or, IsOpener as MayOpen}
 use Rattle.theory_verdicts.proofs.KindBytes.{head_is_one, string_is_one, Begins, judged_begins}
 use Rattle.theory_verdicts.specs.Path.{Level, a_member, a_key, bytes_before, AreClean, MayBreak, IsKeyExpectedIn}
-use Rattle.theory_verdicts.specs.RefusedHere.{IsPlaceFor, IsRefusedBy, HasNoBreak}
 use Rattle.theory_verdicts.specs.Stop.{HasComplaint, IsStopped, EndsWithin}
 use Rattle.theory_verdicts.proofs.Arguments.{low_bits, number_byte, fits as fits_in, numbered, spells, fits, direct_head}
 use Rattle.theory_verdicts.proofs.PathKinds.{kept_prefix, head_begun, around_clean}
-use Rattle.theory_verdicts.{specs.Judged.IsJudged, specs.Judged.Never, specs.Kinds.KeepsToKinds, specs.Kinds.IsOfOneHead, proofs.Judged.judged_start}
-use Rattle.theory_verdicts.{proofs.Leaves.text_complains, specs.PathKinds.KeepsHere, specs.Reading.string_major}
+use Rattle.theory_verdicts.specs.{RefusedHere.IsPlaceFor, RefusedHere.IsRefusedBy, Judged.IsJudged, Judged.Never, Kinds.KeepsToKinds, Kinds.IsOfOneHead}
+use Rattle.theory_verdicts.{proofs.Judged.judged_start, proofs.Leaves.text_complains, specs.PathKinds.KeepsHere, specs.Reading.string_major}
 use Rattle.theory_verdicts.proofs.{CutHeads.head_cut, CutHeads.string_cut, FirstBytes.initial_byte_error, FirstBytes.bad_simple}
 use Rattle.theory_verdicts.proofs.{HeadComplaints.not_shortest, HeadComplaints.indefinite_length, PathStops.complaint_here, PathStops.end_here}
 use Rattle.theory_verdicts.proofs.{KindFrames.other_key, PathLevels.judged_path}

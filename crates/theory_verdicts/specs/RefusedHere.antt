@@ -1,8 +1,7 @@
 -- What is allowed where an item is expected, and what is refused there.
-use Rattle.std.specs.Prelude.{◌≡◌, ℕ, ◌%◌, ◌<◌, ◌≤◌, ◌⊎◌, ◌++◌, Bool, true, false, List, [], ◌∷◌, length}
+use Rattle.std.specs.Prelude.{◌≡◌, ℕ, ◌<◌, ◌≤◌, ◌++◌, Bool, true, false, List, [], ◌∷◌, length}
 use Rattle.cbor_head.specs.Prelude.{Rules, Bounds, AreBytes}
-use Rattle.cbor_head.specs.declared.reason.Reason.TheVariants.{Reserved, NoIndefinite, Float, StrayBreak, TooDeep}
-use Rattle.cbor_head.specs.declared.reason.{Reason.Reason, Refusal.Refusal}
+use Rattle.cbor_head.specs.declared.reason.Refusal.{Refusal}
 use Rattle.theory_verdicts.specs.Path.{Level, bytes_before, AreClean, MayBreak}
 use Rattle.theory_verdicts.specs.{PathKinds.KeepsHere, Stop.IsStopped}
 

@@ -1,6 +1,6 @@
 -- The state of the walk over a valid item: what is still to come in the open containers, and a sink that was given what is
 -- complete.
-use Rattle.std.specs.Prelude.{◌≡◌, ℕ, ◌-◌, ◌^◌, ◌<◌, ◌≤◌, ◌⊎◌, Bool, true, false, List, [], ◌∷◌, ◌++◌, length, take}
+use Rattle.std.specs.Prelude.{◌≡◌, ℕ, ◌-◌, ◌^◌, ◌<◌, ◌≤◌, ◌⊎◌, Bool, true, List, [], ◌∷◌, ◌++◌, length, take}
 use Rattle.cbor_head.specs.Prelude.{plain, refusal, refused, Bounds, IsVerdict, Spelling, spell, IsSpelled, depth}
 use Rattle.cbor_head.specs.declared.reason.Reason.TheVariants.{Memory}
 use Rattle.cbor_builder.specs.declared.repeat.Repeat.{Repeat}

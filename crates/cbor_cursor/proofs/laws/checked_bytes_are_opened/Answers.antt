@@ -1,7 +1,7 @@
 use Rattle.std.proofs.Common.{List, ℕ, length, take, refl, sym, ap, ◌∙◌, subst}
 use Rattle.std.proofs.lemmas.List.{take_at}
 use Rattle.cbor_head.specs.{Value.Same, Canonical.canonical}
-use Rattle.theory_values.proofs.{Normal.normal, NormalValue.value_of-normal, Reported.reported}
+use Rattle.theory_values.proofs.{NormalValue.value_of-normal, Reported.reported}
 use Rattle.cbor_cursor.proofs.laws.checked_bytes_are_opened.Goals as goal
 use Rattle.cbor_cursor.proofs.NormalValues.{decoded_normal}
 

@@ -1,4 +1,3 @@
-use Rattle.std.proofs.Common.{refl}
 use Rattle.cbor_parser.proofs.PrefixStops.{reported_at_start}
 use Rattle.cbor_reader.proofs.item_check.size_by_keys.Goals as goal
 

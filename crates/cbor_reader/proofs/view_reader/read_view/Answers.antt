@@ -1,4 +1,4 @@
-use Rattle.std.proofs.Common.{refl, arith}
+use Rattle.std.proofs.Common.{arith}
 use Rattle.cbor_item.specs.ViewValue.{view_value}
 use Rattle.cbor_parser.proofs.PrefixStops.{reported_at_start}
 use Rattle.cbor_reader.proofs.ViewPrefixes.{view_bounded, view_depth, view_range, view_valid}

@@ -1,4 +1,4 @@
-use Rattle.std.proofs.Common.{◌∙◌, [], ◌∷◌, refl, ap}
+use Rattle.std.proofs.Common.{◌∙◌, [], ◌∷◌, ap}
 use Rattle.cbor_head.specs.{Prelude.canonical, Prelude.value_of, declared.order.KeyOrder.KeyOrder}
 use Rattle.theory_values.specs.Parts.{plain}
 use Rattle.cbor_parser.proofs.PrefixStops.{reported_at_start}

@@ -4,7 +4,7 @@ use Rattle.theory_values.proofs.ByteLists.{are_bytes}
 use Rattle.theory_verdicts.specs.{Stop.IsAnswered, Levels.bytes_before}
 use Rattle.cbor_parser.specs.declared.walk.WalkStop.TheVariants as walks
 use Rattle.cbor_parser.proofs.parser.ParserItemRules.error.Goals as goal
-use Rattle.cbor_parser.proofs.parser.ParserItemRules.error.Goals.{Joined-stop, In-Repeated, In_default, In_default-item_start, In-Refused, in-Untaken, in-Stopped+in-Broken}
+use Rattle.cbor_parser.proofs.parser.ParserItemRules.error.Goals.{Joined-stop, In-Repeated, In_default, in-Untaken, in-Stopped+in-Broken}
 use Rattle.cbor_parser.proofs.ParserRules.{left-there, of-repeat, StopsBefore, Stopped, came, repeats}
 use Rattle.cbor_parser.specs.inner.Begins.{Begins, BeginsUnrefused, IsAllowed}
 use Rattle.cbor_parser.specs.declared.item_start.ItemStart.TheVariants as starts

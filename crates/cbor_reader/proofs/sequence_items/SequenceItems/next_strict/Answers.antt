@@ -1,4 +1,4 @@
-use Rattle.std.proofs.Common.{◌≡◌, subst, IfSome}
+use Rattle.std.proofs.Common.{subst, IfSome}
 use Rattle.cbor_head.specs.Prelude.{strict}
 use Rattle.theory_verdicts.specs.Readers.{IsUnread}
 use Rattle.cbor_reader.proofs.sequence_items.SequenceItems.next_strict.Goals as goal

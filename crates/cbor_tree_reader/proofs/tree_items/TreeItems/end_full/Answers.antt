@@ -1,4 +1,4 @@
-use Rattle.std.proofs.Common.{◌≡◌, ◌∙◌, List, subst, sym, arith}
+use Rattle.std.proofs.Common.{◌≡◌, ◌∙◌, subst, sym, arith}
 use Rattle.cbor_item.specs.OpenValues.{Building, close, open_levels}
 use Rattle.cbor_item.specs.declared.item.Item.{Item}
 use Rattle.cbor_tree_reader.proofs.PartEnds.{ends-next, ends-in-tree, ends-one, ends-all}

@@ -1,4 +1,4 @@
-use Rattle.std.proofs.Common.{◌-◌, arith}
+use Rattle.std.proofs.Common.{arith}
 use Rattle.cborc_files.proofs.Appended.{some_file}
 use Rattle.cborc_tests.proofs.tests.streams.EndlessFolder.read_on.Goals as goal
 
