@@ -29,7 +29,7 @@ from sources import CRATES, IMPORT, NAME, OF_MODELS, ROOT, Exports, Module, Sour
 # The calls of the headline, each with a crate that exports it.
 HEADLINE = [("cbor_reader", "canonicalise"), ("cbor_reader", "read_strict")]
 # Engines that only our crates use: what they export is public only if another crate re-exports it.
-MACHINERY = {"cbor_machine", "cbor_memory", "cbor_parser", "cbor_sinks", "cbor_strict", "cbor_tree_reader"}
+MACHINERY = {"cbor_machine", "cbor_memory", "cbor_parser", "cbor_strict", "cbor_tree_reader"}
 # Crates of specs, proofs and laws, whose lemmas are meant for other crates; and those of their files that have code.
 THEORY = {"theory_values", "theory_automaton", "theory_verdicts"}
 THEORY_CODE = {("theory_values", it) for it in ("key_kind", "key_order", "prefix_number")}

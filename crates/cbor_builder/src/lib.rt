@@ -1,7 +1,8 @@
 //! The engine that makes canonical bytes from the parts of an item, without a tree.
 //!
-//! `cbor_sinks` and `cbor_item` call it. A [`CanonBuilder`] is given heads, strings and ends in their order, and sorts the
-//! pairs of each map when the map ends. [`laws`] has no code: its contracts say which value some parts make.
+//! `cbor_reader`, `cbor_tree_reader` and `cbor_item` call it. A [`CanonBuilder`] is given heads, strings and ends in their
+//! order, and sorts the pairs of each map when the map ends. [`laws`] has no code: its contracts say which value some parts
+//! make.
 #![tactic(auto)]
 
 mod builder;

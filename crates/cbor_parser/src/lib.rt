@@ -2,10 +2,10 @@
 //! whose parts it gives to a sink.
 //!
 //! `cbor_strict` and `cbor_reader` call [`canonical_prefix`], which stops at the first byte, head,
-//! text or key that is not canonical. `cbor_sinks`, `cbor_reader` and `cbor_diag` call
-//! [`Parser::parse_item`], which gives a [`Sink`] the parts of any valid item. Both report the
-//! exact refusal. The loop is compiled for each set of rules. The open containers are on a stack
-//! that grows from 16 to 1,024 entries, so that a shallow item does not pay for the greatest depth.
+//! text or key that is not canonical. `cbor_reader` and `cbor_diag` call [`Parser::parse_item`],
+//! which gives a [`Sink`] the parts of any valid item. Both report the exact refusal. The loop is
+//! compiled for each set of rules. The open containers are on a stack that grows from 16 to 1,024
+//! entries, so that a shallow item does not pay for the greatest depth.
 #![tactic(auto)]
 
 mod canonical;

@@ -6,7 +6,7 @@ use Rattle.cbor_head.specs.declared.reason.Reason.TheVariants as reasons
 use Rattle.cbor_head.specs.declared.{order.KeyOrder.KeyOrder, reason.Reason.Reason}
 use Rattle.theory_values.{proofs.PlainVerdicts.accepted_plainly, specs.StrictReasons.IsStrictReason}
 use Rattle.theory_verdicts.{proofs.CanonicalPrefixes.strict_bytes, proofs.CanonicalPrefixes.strict_value, specs.Readers.IsRead, specs.Readers.IsCanonicalPrefix}
-use Rattle.cbor_sinks.specs.BuiltPrefix.{IsBuiltPrefix}
+use Rattle.cbor_reader.specs.BuiltPrefix.{IsBuiltPrefix}
 
 module _ (limits : Bounds) (o : KeyOrder) (input : List ℕ) where
   pub canonical_built : (count : ℕ) → IsRead limits (strict o) input count → IsBuiltPrefix limits o input (take count input) count

@@ -1,13 +1,19 @@
+pub mod CanonGiven
 pub mod CanonicalPrefixes
 pub mod CanonicaliserRefusals
 pub mod Comparing
 pub mod CutShort
 mod Examples
 pub mod Headline
+pub mod KeyStrings
+pub mod KeysApart
+pub mod KeysGiven
+pub mod KeysKept
 pub mod OnAnswers
 pub mod OneAnswer
 pub mod OwnAnswers
 pub mod Readings
+pub mod RepeatsReported
 pub mod SequenceLaws
 pub mod Sequences
 pub mod ValidTexts

@@ -10,10 +10,10 @@ use Rattle.cbor_item.specs.ViewValue.{open_levels}
 use Rattle.theory_verdicts.specs.Levels.{Level, IsOpened, some_member, some_key, item_expected}
 use Rattle.theory_verdicts.{specs.Reading.string_value, proofs.Levels.of-opened}
 use Rattle.cbor_parser.specs.Sink.{FindsNoRepeat, FindsRepeat, Reported, IsEndedAs, StandsFull, IsItemExpected, IsChunkExpected, IsContainerFull, Gives, Opens, Ends, Repeats, BeginsString, GrowsString, EndsString}
-use Rattle.cbor_sinks.specs.{KeyBytes.keys_stand, KeyBytes.keys_hold, declared.key_bytes.KeyBytes.KeyBytes}
 use Rattle.cbor_tree_reader.specs.TreeValues.{member_values, pair_values, level_value, level_values, full_value, IsContainer}
 use Rattle.cbor_tree_reader.proofs.TreeValues.{full-ends, levels-take, may-end, settles-right, values-given, values-ended}
-use Rattle.cbor_reader.specs.{declared.view_sink.ViewSink.ViewSink, inner.ViewSinks.view_stands, inner.ViewSinks.view_holds}
+use Rattle.cbor_reader.specs.{inner.KeyBytes.keys_stand, inner.KeyBytes.keys_hold, declared.key_bytes.KeyBytes.KeyBytes, declared.view_sink.ViewSink.ViewSink}
+use Rattle.cbor_reader.specs.inner.ViewSinks.{view_stands, view_holds}
 
 -- ---- an item
 

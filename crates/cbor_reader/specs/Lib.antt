@@ -1,3 +1,4 @@
+pub mod BuiltPrefix
 pub mod Canonicalise
 pub mod Comparing
 pub mod Headline

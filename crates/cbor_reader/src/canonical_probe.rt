@@ -5,7 +5,7 @@ ghost use Rattle.cbor_head.specs.Complaint.{plain};
 ghost use Rattle.cbor_head.specs.Verdict.{IsVerdict, refused};
 ghost use Rattle.cbor_head.specs.declared.reason.Reason.TheVariants as reasons;
 ghost use Rattle.theory_verdicts.specs.Readers.{HasNoCanonicalPrefix};
-ghost use Rattle.cbor_sinks.specs.BuiltPrefix.{IsBuiltPrefix};
+ghost use Rattle.cbor_reader.specs.BuiltPrefix.{IsBuiltPrefix};
 
 use cbor_head::{KeyOrder, Limits, Reason, Refusal};
 use cbor_parser::canonical_prefix;

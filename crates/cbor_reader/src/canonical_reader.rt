@@ -6,12 +6,12 @@ ghost use Rattle.cbor_head.specs.Complaint.{plain};
 ghost use Rattle.cbor_head.specs.Value.{Value};
 ghost use Rattle.cbor_head.specs.declared.reason.Reason.TheVariants as reasons;
 ghost use Rattle.theory_verdicts.specs.Readers.{BeginsWithCanonical, IsUnread, ReportsMemoryAtStart};
-ghost use Rattle.cbor_sinks.specs.BuiltPrefix.{IsBuiltPrefix};
+ghost use Rattle.cbor_reader.specs.BuiltPrefix.{IsBuiltPrefix};
 
+use crate::built_prefix::build_prefix;
 use crate::canonical_probe::probe_canonical;
 use cbor_head::{KeyOrder, Limits, Refusal};
 use cbor_memory::Memory;
-use cbor_sinks::build_prefix;
 use std::alloc::Global;
 use std::borrow::CowSlice;
 

@@ -4,12 +4,12 @@ ghost use Rattle.std.specs.Prelude.{◌≢◌, IfOk, IfErr};
 ghost use Rattle.cbor_head.specs.Complaint.{plain};
 ghost use Rattle.cbor_head.specs.declared.reason.Reason.TheVariants as reasons;
 ghost use Rattle.theory_verdicts.specs.Readers.{IsUnread, ReportsMemoryAtStart};
-ghost use Rattle.cbor_sinks.specs.BuiltPrefix.{IsBuiltPrefix};
+ghost use Rattle.cbor_reader.specs.BuiltPrefix.{IsBuiltPrefix};
 
+use crate::built_prefix::PrefixBuilder;
 use crate::canonical_probe::{CanonicalProbe, probe_canonical};
 use cbor_head::{KeyOrder, Limits, Refusal};
 use cbor_memory::Memory;
-use cbor_sinks::PrefixBuilder;
 use std::alloc::Global;
 
 /// Returns the canonical bytes of one item after another, each as

@@ -5,12 +5,12 @@ ghost use Rattle.cbor_head.specs.Complaint.{plain};
 ghost use Rattle.cbor_head.specs.declared.reason.Reason.TheVariants as reasons;
 ghost use Rattle.theory_verdicts.specs.Levels.{item_expected};
 ghost use Rattle.theory_verdicts.specs.Readers.{IsRead, IsUnread, ReportsMemoryAtStart};
-ghost use Rattle.cbor_sinks.specs.KeyBytes.{keys_stand};
+ghost use Rattle.cbor_reader.specs.inner.KeyBytes.{keys_stand};
 
 use crate::canonical_probe::{CanonicalProbe, probe_canonical};
+use crate::key_bytes::KeyBytes;
 use cbor_head::{KeyOrder, Limits, Refusal};
 use cbor_parser::Parser;
-use cbor_sinks::KeyBytes;
 use std::alloc::Global;
 
 /// Checks one item after another, each as [`check_valid`](crate::check_valid) does, in memory that it

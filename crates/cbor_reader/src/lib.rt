@@ -22,12 +22,15 @@
 //! these results.
 #![tactic(auto)]
 
+mod built_prefix;
 mod canonical_probe;
 mod canonical_reader;
+mod canonical_sink;
 mod canonicaliser;
 mod comparison;
 mod item_canonicaliser;
 mod item_check;
+mod key_bytes;
 pub mod laws;
 mod sequence;
 mod sequence_items;

@@ -8,10 +8,10 @@ ghost use Rattle.cbor_head.specs.declared.reason.Reason.TheVariants as reasons;
 ghost use Rattle.theory_verdicts.specs.Readers.{BeginsWithCanonical, IsRead, IsUnread, ReportsMemoryAtStart};
 
 use crate::canonical_probe::probe_canonical;
+use crate::key_bytes::KeyBytes;
 use cbor_head::{KeyOrder, Limits, Refusal};
 use cbor_memory::Memory;
 use cbor_parser::Parser;
-use cbor_sinks::KeyBytes;
 use std::alloc::Global;
 
 /// Returns the size in bytes of the well-formed, valid item that the slice begins with (RFC 8949, sections 3 and

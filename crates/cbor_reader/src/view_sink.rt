@@ -13,13 +13,13 @@ ghost use Rattle.cbor_reader.specs.inner.ViewSinks.{view_stands, view_holds};
 ghost use Rattle.cbor_item.specs.ViewValue.{view_value, open_levels};
 ghost use Rattle.cbor_parser.specs.Sink.{leaf_value};
 
+use crate::key_bytes::KeyBytes;
 use bumpalo::Bump;
 use cbor_builder::Repeat;
 use cbor_head::Major;
 use cbor_item::{Joined, View, ViewBuilder};
 use cbor_memory::Memory;
 use cbor_parser::Sink;
-use cbor_sinks::KeyBytes;
 use std::alloc::{AllocError, Global};
 
 /// The views of the parts so far, and the canonical bytes of keys, which equal ones are found by.

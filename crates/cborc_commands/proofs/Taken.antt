@@ -5,8 +5,7 @@ use Rattle.cbor_head.specs.Prelude.{Rules, plain, Bounds, Spelling, spell, refus
 use Rattle.cbor_head.specs.declared.reason.Reason.TheVariants as reasons
 use Rattle.cbor_head.specs.declared.{order.KeyOrder.KeyOrder, reason.Refusal.Refusal}
 use Rattle.theory_verdicts.specs.Readers.{IsRead}
-use Rattle.cbor_sinks.specs.BuiltPrefix.{IsBuiltPrefix}
-use Rattle.cbor_reader.{specs.Sequence.IsAccepted, proofs.Sequences.is_accepted, proofs.Sequences.splits}
+use Rattle.cbor_reader.{specs.BuiltPrefix.IsBuiltPrefix, specs.Sequence.IsAccepted, proofs.Sequences.is_accepted, proofs.Sequences.splits}
 use Rattle.cborc_words.specs.declared.request.{Form.Form, TextStyle.TextStyle}
 use Rattle.cborc_commands.specs.declared.fault.Fault.TheVariants as faults
 use Rattle.cborc_commands.specs.CanonSequence.{HasCanonicalBytes, canonical_text, too_long}

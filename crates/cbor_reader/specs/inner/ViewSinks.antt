@@ -2,9 +2,8 @@
 use Rattle.std.specs.Prelude.{◌≡◌, ℕ, Bool, true, IsUtf8, List}
 use Rattle.cbor_item.specs.ViewValue.{open_levels}
 use Rattle.theory_verdicts.specs.Levels.{Level, ParseState, item_expected}
-use Rattle.cbor_sinks.specs.KeyBytes.{keys_stand}
 use Rattle.cbor_tree_reader.specs.TreeValues.{level_values, values_at, IsFullRight}
-use Rattle.cbor_reader.specs.declared.view_sink.ViewSink.{ViewSink}
+use Rattle.cbor_reader.specs.{inner.KeyBytes.keys_stand, declared.view_sink.ViewSink.ViewSink}
 
 -- it holds the canonical bytes of keys, and the views of what is complete
 abbrev pub view_stands : ViewSink → ViewSink → ParseState → Type 0

@@ -1,9 +1,9 @@
 use Rattle.std.proofs.Common.{ap, subst, false, IfSome}
 use Rattle.std.specs.Option.{is_some}
 use Rattle.cbor_parser.specs.Sink.{Repeats}
-use Rattle.cbor_sinks.specs.{KeyBytes.keys_stand, declared.key_bytes.KeyBytes.KeyBytes}
 use Rattle.cbor_reader.proofs.ViewGiven.{keys-end, views-end, ended, repeats}
 use Rattle.cbor_reader.proofs.view_sink.ViewSinkSink.end.Goals as goal
+use Rattle.cbor_reader.specs.{inner.KeyBytes.keys_stand, declared.key_bytes.KeyBytes.KeyBytes}
 
 pub end-requires : goal.end-requires
 end-requires c = keys-end c.args.is_map c.args.self.now c.requires.full

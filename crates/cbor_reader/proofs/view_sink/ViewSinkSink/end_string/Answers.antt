@@ -2,9 +2,9 @@ use Rattle.std.proofs.Common.{ℕ, Bool, List, length, ◌∙◌, ap₂, sym, su
 use Rattle.cbor_item.specs.{OpenValues.give, ViewValue.open_levels}
 use Rattle.theory_verdicts.specs.Reading.{string_value}
 use Rattle.cbor_parser.specs.Sink.{Gives}
-use Rattle.cbor_sinks.specs.{KeyBytes.keys_stand, declared.key_bytes.KeyBytes.KeyBytes}
 use Rattle.cbor_reader.proofs.ViewGiven.{expected, takes, utf8-expected, whole-expected, string-ended}
 use Rattle.cbor_reader.proofs.view_sink.ViewSinkSink.end_string.Goals as goal
+use Rattle.cbor_reader.specs.{inner.KeyBytes.keys_stand, declared.key_bytes.KeyBytes.KeyBytes}
 
 pub string-requires : goal.string-requires
 string-requires c =

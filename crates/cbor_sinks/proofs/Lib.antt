@@ -1,6 +1,0 @@
-pub mod CanonGiven
-pub mod KeyStrings
-pub mod KeysApart
-pub mod KeysGiven
-pub mod KeysKept
-pub mod RepeatsReported

@@ -1,3 +1,0 @@
-pub mod BuiltPrefix
-pub mod CanonSink
-pub mod KeyBytes
