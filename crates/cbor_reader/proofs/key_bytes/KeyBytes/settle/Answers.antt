@@ -1,6 +1,5 @@
 use Rattle.std.proofs.Common.{◌≡◌, ℕ, zero, suc, List, false, refl}
 use Rattle.theory_values.specs.Parts.{Open}
-use Rattle.cbor_builder.specs.Built.{Built, built}
 use Rattle.cbor_reader.proofs.key_bytes.KeyBytes.settle.Goals as goal
 use Rattle.cbor_reader.specs.inner.KeyBytes.{behind_item}
 
