@@ -1,6 +1,8 @@
 pub mod AnyItem
 pub mod AnyRefusals
 pub mod Beginnings
+pub mod CanonGiven
+pub mod CanonRepeats
 pub mod CanonicalStops
 pub mod CellSteps
 pub mod ChunkStops

@@ -1,3 +1,4 @@
+pub mod CanonSink
 pub mod Expected
 pub mod NotCanonical
 pub mod ParsedItem

@@ -3,12 +3,14 @@
 //!
 //! `cbor_strict` and `cbor_reader` call [`canonical_prefix`], which stops at the first byte, head,
 //! text or key that is not canonical. `cbor_reader` and `cbor_diag` call [`Parser::parse_item`],
-//! which gives a [`Sink`] the parts of any valid item. Both report the exact refusal. The loop is
-//! compiled for each set of rules. The open containers are on a stack that grows from 16 to 1,024
-//! entries, so that a shallow item does not pay for the greatest depth.
+//! which gives a [`Sink`], for example a `CanonBuilder`, the parts of any valid item. Both report
+//! the exact refusal. The loop is compiled for each set of rules. The open containers are on a
+//! stack that grows from 16 to 1,024 entries, so that a shallow item does not pay for the greatest
+//! depth.
 #![tactic(auto)]
 
 mod canonical;
+mod canonical_sink;
 mod chunk_refusal;
 mod container;
 mod content;
@@ -31,5 +33,6 @@ mod strict_rules;
 mod walk;
 
 pub use canonical::canonical_prefix;
+pub use canonical_sink::string_type;
 pub use parser::Parser;
 pub use sink::Sink;

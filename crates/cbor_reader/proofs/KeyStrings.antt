@@ -6,10 +6,11 @@ use Rattle.theory_values.specs.Parts.{Open, a_string, give, extended, close, ope
 use Rattle.cbor_builder.specs.Built.{Built, built, IsInString, TakesPart}
 use Rattle.theory_verdicts.specs.{Levels.Level, Levels.settle, Reading.string_major, Reading.string_value}
 use Rattle.cbor_parser.specs.Sink.{key_expected, Completes, BeginsString, IsChunkExpected, GrowsString, EndsString}
+use Rattle.cbor_parser.proofs.CanonGiven.{string-bytes, string-opens}
 use Rattle.cbor_reader.proofs.KeysGiven.{stands-by, with-kept, with-left}
 use Rattle.cbor_reader.proofs.KeysKept.{Some, in_key-is, item-kept, some-kept, value-takes}
 use Rattle.cbor_reader.specs.inner.KeyBytes.{in_key, kept, kept_all, inside, is_kept, behind_item, with_item, keys_stand, keys_hold}
-use Rattle.cbor_reader.{proofs.CanonGiven.string-bytes, proofs.CanonGiven.string-opens, specs.declared.key_bytes.KeyBytes.KeyBytes}
+use Rattle.cbor_reader.specs.declared.key_bytes.KeyBytes.{KeyBytes}
 
 -- whether it is stored, in these containers
 here : (k : Bool) (g : KeyBytes) (ls : List Level) → g.inside ≡ inside ls → k ≡ key_expected ls → in_key ls ≡ is_kept g.inside k

@@ -9,9 +9,10 @@ use Rattle.cbor_builder.specs.declared.repeat.Repeat.{Repeat}
 use Rattle.theory_verdicts.specs.Given.{level_open, opens, IsFull}
 use Rattle.theory_verdicts.specs.Levels.{Level, some_member, some_key, AreLevels, ParseState, item_full, settle}
 use Rattle.cbor_parser.specs.Sink.{key_expected, is_map, Reported, IsEndedAs, Fills, StandsFull, IsItemExpected, IsContainerFull, Gives, Ends}
+use Rattle.cbor_parser.proofs.CanonGiven.{full-indefinite}
 use Rattle.cbor_reader.proofs.KeysKept.{in_key-is, item-kept, takes-part, value-takes, inside-few, innermost, may-end, IsBehind, map-ended, other-ended, inner-ended, inner-takes}
 use Rattle.cbor_reader.specs.inner.KeyBytes.{is_open_map, in_key, kept, kept_all, one_more, inside, is_kept, behind_item, with_item, KeepsAt, keys_stand}
-use Rattle.cbor_reader.{proofs.CanonGiven.full-indefinite, specs.declared.key_bytes.KeyBytes.KeyBytes}
+use Rattle.cbor_reader.specs.declared.key_bytes.KeyBytes.{KeyBytes}
 
 -- ---- an item
 

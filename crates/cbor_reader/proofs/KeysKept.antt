@@ -12,8 +12,8 @@ use Rattle.theory_verdicts.specs.Levels as levels
 use Rattle.theory_verdicts.specs.Levels.{IsTaken, Level, a_member, a_value, some_member, some_key, some_value, tagged, AreLevels, level_bytes, bytes_before, item_expected, item_full, settle}
 use Rattle.theory_verdicts.{proofs.Given.settled, specs.Frame.with_all, specs.Frame.with_entries}
 use Rattle.cbor_parser.specs.Sink.{takes_key, key_expected, is_map}
+use Rattle.cbor_parser.proofs.CanonGiven.{opens-take}
 use Rattle.cbor_reader.specs.inner.KeyBytes.{is_open_map, in_key, bare_pairs, bare, kept, kept_all, one_more, inside, is_kept, behind_item, with_item, KeepsAt}
-use Rattle.cbor_reader.proofs.CanonGiven.{opens-take}
 
 -- ---- the keys of a map
 

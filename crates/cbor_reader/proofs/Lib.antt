@@ -1,4 +1,3 @@
-pub mod CanonGiven
 pub mod CanonicalPrefixes
 pub mod CanonicaliserRefusals
 pub mod Comparing

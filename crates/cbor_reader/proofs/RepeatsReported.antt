@@ -1,42 +1,18 @@
--- The repeated key that a builder reports of what it holds of an item is the one of all of its open maps.
+-- The repeated key that the sink of keys reports is the one of all open maps of an item.
 use Rattle.std.proofs.Common.{◌≡◌, ℕ, suc, Bool, true, false, List, [], ◌∷◌, ◌++◌, ◌⊎◌, ◌<◌, refl, sym, ap, ◌∙◌, subst, inl, inr, arith}
 use Rattle.cbor_head.specs.Spelling as spelling
 use Rattle.cbor_head.specs.{Prelude.Spelling, declared.order.KeyOrder.KeyOrder}
-use Rattle.theory_values.specs.Parts.{Open, a_map, a_key, a_string, HasNoRepeats}
+use Rattle.theory_values.specs.Parts.{Open, a_map, a_key, a_string}
 use Rattle.theory_values.specs.Parts as parts
 use Rattle.cbor_builder.specs.Built.{keys_so_far, open_maps, AreOpenKeysDifferent, IsFirstRepeat, IsRepeatReported, HasDistinctKeysSoFar}
 use Rattle.cbor_builder.specs.declared.repeat.Repeat.{Repeat}
-use Rattle.theory_verdicts.specs.Given.{level_open, opens, full_open, IsHeldAs, IsNoMap}
+use Rattle.theory_verdicts.specs.Given.{level_open, opens, IsHeldAs}
 use Rattle.theory_verdicts.specs.{Levels.Level, Reading.string_major}
 use Rattle.cbor_parser.specs.Sink.{FindsRepeat, IsKeyless, Repeats}
+use Rattle.cbor_parser.proofs.CanonRepeats.{around-reported, full-reported, keyless-distinct}
 use Rattle.cbor_reader.proofs.KeysApart.{bare-keys, waiting-keys, all-apart}
 use Rattle.cbor_reader.specs.inner.KeyBytes.{is_open_map, one_more, inside, in_key, bare_pairs, kept, kept_all, keys_stand, keys_hold}
-use Rattle.cbor_reader.{proofs.CanonGiven.stands-full, proofs.KeysGiven.full-at, specs.inner.CanonSink.sink_stands, specs.inner.CanonSink.sink_holds}
-use Rattle.cbor_reader.specs.declared.{canonical_sink.CanonicalSink.CanonicalSink, key_bytes.KeyBytes.KeyBytes}
-
--- ---- by the keys of the innermost alone
-
-same-keys-reported : (c x : Open) (os : List Open) (outside pair : ℕ) → keys_so_far c ≡ keys_so_far x → IsRepeatReported (c ∷ os) outside pair → IsRepeatReported (x ∷ os) outside pair
-same-keys-reported c x os outside pair e (inl h) = inl h
-same-keys-reported c x os outside pair e (inr (apart, maps, first)) = inr (apart, maps, subst (λ (ks : List (List ℕ)). IsFirstRepeat ks pair) e first)
-
--- it has none
-around-reported : (c : Open) (os : List Open) (outside pair : ℕ) → keys_so_far c ≡ [] → IsRepeatReported (c ∷ os) outside pair → IsRepeatReported os outside pair
-around-reported c os outside pair e (inl h) = h
-around-reported c os outside pair e (inr (apart, maps, first)) = let f = subst (λ (ks : List (List ℕ)). IsFirstRepeat ks pair) e first in absurd (omega (arith, f.0.2))
-
-no-map-keys : (c : Open) → IsNoMap c → keys_so_far c ≡ []
-no-map-keys (a_map ps) h = absurd h
-no-map-keys (a_key ps k) h = absurd h
-no-map-keys _ h = refl
-
--- a container of which all was given
-held-keys : (o : KeyOrder) (c : Open) (s : Spelling) → IsHeldAs o c s → keys_so_far c ≡ keys_so_far (full_open o s)
-held-keys o c (spelling.a_map w es) h = ap keys_so_far h
-held-keys o c _ h = no-map-keys c h
-
-full-reported : (o : KeyOrder) (c : Open) (s : Spelling) (os : List Open) (outside pair : ℕ) → IsHeldAs o c s → IsRepeatReported (c ∷ os) outside pair → IsRepeatReported (full_open o s ∷ os) outside pair
-full-reported o c s os outside pair held = same-keys-reported c (full_open o s) os outside pair (held-keys o c s held)
+use Rattle.cbor_reader.{proofs.KeysGiven.full-at, specs.declared.key_bytes.KeyBytes.KeyBytes}
 
 -- ---- by the keys that are stored
 
@@ -74,42 +50,16 @@ all-reported o (l ∷ ls) outside pair h = kept-reported (kept_all o ls) (opens 
 within-reported : (o : KeyOrder) (ls : List Level) (c : Open) (outside pair : ℕ) → IsRepeatReported (kept (in_key ls) c (kept_all o ls)) outside pair → IsRepeatReported (c ∷ opens o ls) outside pair
 within-reported o ls c outside pair h = kept-reported (kept_all o ls) (opens o ls) outside pair (all-reported o ls outside pair) (all-apart o ls) (all-maps o ls) (in_key ls) c h
 
--- ---- of the sinks
-
-no-map-distinct : (c : Open) → IsNoMap c → HasNoRepeats c
-no-map-distinct (a_map ps) h = absurd h
-no-map-distinct _ h = tt
+-- ---- of the sink
 
 -- of a container without keys no two are equal
-keyless-distinct : (o : KeyOrder) (t : Bool) (c : Open) (s : Spelling) (os : List Open) → IsHeldAs o c s → IsKeyless s → (t ≡ true) ⊎ (is_open_map c ≡ true) → HasDistinctKeysSoFar (kept t c os)
-keyless-distinct o t c (spelling.a_map w spelling.no_entries) os h k e = subst (λ (x : Open). HasDistinctKeysSoFar (kept t x os)) (sym h) (empty t)
-  where
-    empty : (u : Bool) → HasDistinctKeysSoFar (kept u (a_map []) os)
-    empty true = tt
-    empty false = tt
-keyless-distinct o t c (spelling.a_map w (spelling.entry k v es)) os h none e = absurd none
-keyless-distinct o true c _ os h k e = no-map-distinct c h
-keyless-distinct o false (a_map ps) _ os h k e = absurd h
-keyless-distinct o false c _ os h k (inl e) = absurd (cc e)
-keyless-distinct o false _ _ os h k (inr e) = absurd (cc e)
-
-module _ (g : CanonicalSink) (repeat : Repeat) (h : IsRepeatReported g.builder.open_levels repeat.outside repeat.pair) where
-  abbrev in-canon : List Open → Type 0
-  in-canon os = IsRepeatReported os repeat.outside repeat.pair
-
-  pub canon-finds : FindsRepeat CanonicalSink sink_stands sink_holds g repeat
-  canon-finds start ls (inl at) = (start.builder.order, subst in-canon at.1 h)
-  canon-finds start ls (inr (is_text, content, at)) =
-      let o = start.builder.order in
-      (o, around-reported (a_string (string_major is_text) content) (opens o ls) repeat.outside repeat.pair refl (subst in-canon at.1 h))
-
-  pub canon-repeats : (HasDistinctKeysSoFar g.builder.open_levels → ⊥) → (trusts t : Bool) → Repeats CanonicalSink sink_stands trusts t g repeat
-  canon-repeats differ trusts t start d ls s fills full =
-      let o = start.builder.order in
-      let at = (stands-full t start g d ls s fills full).1 in (
-        (o, full-reported o at.1 s (opens o ls) repeat.outside repeat.pair at.2.held (subst in-canon at.3 h)),
-        λ keyless. differ (subst HasDistinctKeysSoFar (sym at.3) (keyless-distinct o true at.1 s (opens o ls) at.2.held keyless (inl refl))),
-      )
+keyless-kept : (o : KeyOrder) (t : Bool) (c : Open) (s : Spelling) (os : List Open) → IsHeldAs o c s → IsKeyless s → (t ≡ true) ⊎ (is_open_map c ≡ true) → HasDistinctKeysSoFar (kept t c os)
+keyless-kept o true c s os h k e = keyless-distinct o c s h k
+keyless-kept o false c (spelling.a_map w spelling.no_entries) os h k e = subst (λ (x : Open). HasDistinctKeysSoFar (kept false x os)) (sym h) tt
+keyless-kept o false c (spelling.a_map w (spelling.entry k v es)) os h none e = absurd none
+keyless-kept o false (a_map ps) _ os h k e = absurd h
+keyless-kept o false c _ os h k (inl e) = absurd (cc e)
+keyless-kept o false _ _ os h k (inr e) = absurd (cc e)
 
 module _ (g : KeyBytes) (repeat : Repeat) (h : IsRepeatReported g.builder.open_levels repeat.outside repeat.pair) where
   abbrev in-keys : List Open → Type 0
@@ -128,7 +78,7 @@ module _ (g : KeyBytes) (repeat : Repeat) (h : IsRepeatReported g.builder.open_l
       let (at, kind) = full-at t d start g ls s fills full in
       let stored : (in_key ls ≡ true) ⊎ (is_open_map at.1 ≡ true) = elim within [ inl some ↦ inl (in-a-key (in_key ls) (inside ls) some at.5) | inr map ↦ inr (at.3 ∙ sym kind ∙ map) ] in (
         (o, full-reported o at.1 s (opens o ls) repeat.outside repeat.pair at.2.held (within-reported o ls at.1 repeat.outside repeat.pair (subst in-keys at.4 h))),
-        λ keyless. differ (subst HasDistinctKeysSoFar (sym at.4) (keyless-distinct o (in_key ls) at.1 s (kept_all o ls) at.2.held keyless stored)),
+        λ keyless. differ (subst HasDistinctKeysSoFar (sym at.4) (keyless-kept o (in_key ls) at.1 s (kept_all o ls) at.2.held keyless stored)),
       )
     where
       in-a-key : (u : Bool) (n : ℕ) → 0 < g.inside → g.inside ≡ one_more u n → u ≡ true

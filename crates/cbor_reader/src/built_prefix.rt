@@ -6,7 +6,7 @@ ghost use Rattle.cbor_head.specs.declared.reason.Reason.TheVariants as reasons;
 ghost use Rattle.theory_verdicts.specs.Readers.{IsUnread, ReportsMemoryAtStart};
 ghost use Rattle.cbor_reader.specs.BuiltPrefix.{IsBuiltPrefix};
 
-use crate::canonical_sink::CanonicalSink;
+use cbor_builder::CanonBuilder;
 use cbor_head::{KeyOrder, Limits, Refusal};
 use cbor_memory::Memory;
 use cbor_parser::Parser;
@@ -42,14 +42,14 @@ pub(crate) fn build_prefix(
     ensures request { IfErr result (λ f. f.reason ≡ reasons.Memory → IsTrue memory.new) }
     ensures kept { IfOk result (λ _. memory.new ≡ memory.old) }
 {
-    let mut building = Parser::new(CanonicalSink::new(alloc, order));
+    let mut building = Parser::new(CanonBuilder::new(alloc, order));
     match building.parse_item(bytes, limits) {
         Ok(size) => Ok(BuiltPrefix {
-            canonical: building.sink.builder.finish(),
+            canonical: building.sink.finish(),
             size,
         }),
         Err(refusal) => {
-            memory.include(building.sink.builder.memory());
+            memory.include(building.sink.memory());
             Err(refusal)
         }
     }
@@ -58,14 +58,14 @@ pub(crate) fn build_prefix(
 /// Builds the canonical bytes of one item after another, in memory that it reuses.
 #[derive(Drop)]
 pub(crate) struct PrefixBuilder {
-    building: Parser<CanonicalSink>,
+    building: Parser<CanonBuilder>,
 }
 
 impl PrefixBuilder {
     /// A builder with no memory; allocates nothing.
     pub(crate) fn new(alloc: Global) -> PrefixBuilder {
         PrefixBuilder {
-            building: Parser::new(CanonicalSink::new(alloc, KeyOrder::Bytewise)),
+            building: Parser::new(CanonBuilder::new(alloc, KeyOrder::Bytewise)),
         }
     }
 
@@ -88,9 +88,9 @@ impl PrefixBuilder {
     {
         self.building.sink.clear(order);
         match self.building.parse_item(bytes, limits) {
-            Ok(size) => Ok((self.building.sink.builder.as_slice(), size)),
+            Ok(size) => Ok((self.building.sink.as_slice(), size)),
             Err(refusal) => {
-                memory.include(self.building.sink.builder.memory());
+                memory.include(self.building.sink.memory());
                 Err(refusal)
             }
         }

@@ -7,11 +7,10 @@ ghost use Rattle.cbor_reader.specs.inner.KeyBytes.{is_kept, behind_item, keys_st
 ghost use Rattle.cbor_reader.specs.declared.key_bytes.KeyBytes.{KeyBytes};
 ghost use Rattle.cbor_parser.specs.Sink.{IsContainerFull, Ends, Repeats};
 
-use crate::canonical_sink::string_type;
 use cbor_builder::{CanonBuilder, Repeat};
 use cbor_head::{KeyOrder, Major};
 use cbor_memory::Memory;
-use cbor_parser::Sink;
+use cbor_parser::{Sink, string_type};
 use std::alloc::{AllocError, Global};
 
 /// Finds equal keys in an item: it holds the canonical bytes of the keys of the open maps. An item

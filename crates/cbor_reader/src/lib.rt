@@ -25,7 +25,6 @@
 mod built_prefix;
 mod canonical_probe;
 mod canonical_reader;
-mod canonical_sink;
 mod canonicaliser;
 mod comparison;
 mod item_canonicaliser;

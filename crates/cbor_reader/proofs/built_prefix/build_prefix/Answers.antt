@@ -1,9 +1,9 @@
 use Rattle.std.proofs.Common.{◌∙◌, [], ◌∷◌, ap}
 use Rattle.cbor_head.specs.{Prelude.canonical, Prelude.value_of, declared.order.KeyOrder.KeyOrder}
 use Rattle.theory_values.specs.Parts.{plain}
+use Rattle.cbor_builder.specs.Built.{Built}
 use Rattle.cbor_parser.proofs.PrefixStops.{reported_at_start}
 use Rattle.cbor_reader.proofs.built_prefix.build_prefix.Goals as goal
-use Rattle.cbor_reader.specs.declared.canonical_sink.CanonicalSink.{CanonicalSink}
 
 pub returns-in-Ok-clause-accepted : goal.returns-in-Ok-clause-accepted
 returns-in-Ok-clause-accepted c =
@@ -11,7 +11,7 @@ returns-in-Ok-clause-accepted c =
     let v = value_of h.read.item in
     record {
       read = h.read;
-      canonical_is = c.finish.ensures.bytes (canonical c.args.order v) (h.whole.1 ∙ ap (λ (o : KeyOrder). plain (canonical o v) ∷ []) (ap (λ (s : CanonicalSink). s.builder.order) c.new-building.ensures ∙ c.new.ensures.order));
+      canonical_is = c.finish.ensures.bytes (canonical c.args.order v) (h.whole.1 ∙ ap (λ (o : KeyOrder). plain (canonical o v) ∷ []) (ap (λ (x : Built). x.order) (c.new-building.ensures ∙ c.new.ensures)));
     }
 
 pub returns-in-Err-clause-refused : goal.returns-in-Err-clause-refused

@@ -1,6 +1,7 @@
 use Rattle.std.proofs.Common.{rules, ◌∙◌, [], ◌∷◌, refl, ap}
 use Rattle.cbor_head.specs.{Prelude.canonical, Prelude.value_of, declared.order.KeyOrder.KeyOrder}
 use Rattle.theory_values.specs.Parts.{plain}
+use Rattle.cbor_builder.specs.Built.{Built}
 use Rattle.cbor_parser.proofs.PrefixStops.{reported_at_start}
 use Rattle.cbor_reader.proofs.built_prefix.PrefixBuilder.build.Goals as goal
 
@@ -11,7 +12,7 @@ returns-in-Ok c =
     record {
       accepted = record {
         read = h.read;
-        canonical_is = c.as_slice.ensures (canonical c.args.order v) (h.whole.1 ∙ ap (λ (o : KeyOrder). plain (canonical o v) ∷ []) c.clear.ensures.order);
+        canonical_is = c.as_slice.ensures (canonical c.args.order v) (h.whole.1 ∙ ap (λ (o : KeyOrder). plain (canonical o v) ∷ []) (ap (λ (x : Built). x.order) c.clear.ensures));
       };
       refused = tt;
       no_read = tt;

@@ -1,7 +1,8 @@
 use Rattle.std.proofs.Common.{refl, inr}
+use Rattle.cbor_parser.proofs.CanonGiven.{repeats-if}
 use Rattle.cbor_reader.proofs.KeysGiven.{in-container, map-ends, ended-other}
 use Rattle.cbor_reader.proofs.key_bytes.KeyBytesSink.end.Goals as goal
-use Rattle.cbor_reader.proofs.{CanonGiven.repeats-if, RepeatsReported.keys-repeat}
+use Rattle.cbor_reader.proofs.RepeatsReported.{keys-repeat}
 
 pub give_up_if_distinct-requires : goal.give_up_if_distinct-requires
 give_up_if_distinct-requires c = record { container = in-container c.args.is_map c.args.self.now c.requires.full (inr c.if-is_map.true) }

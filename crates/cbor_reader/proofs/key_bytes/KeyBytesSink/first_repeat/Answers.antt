@@ -1,5 +1,6 @@
+use Rattle.cbor_parser.proofs.CanonGiven.{none-reported, one-reported}
 use Rattle.cbor_reader.proofs.key_bytes.KeyBytesSink.first_repeat.Goals as goal
-use Rattle.cbor_reader.proofs.{CanonGiven.none-reported, CanonGiven.one-reported, KeysApart.no-repeat, RepeatsReported.keys-find}
+use Rattle.cbor_reader.proofs.{KeysApart.no-repeat, RepeatsReported.keys-find}
 
 pub returns : goal.returns
 returns c = record {

@@ -1,9 +1,8 @@
 use Rattle.std.proofs.Common.{ap, ◌∙◌, sym}
 use Rattle.cbor_builder.specs.Built.{Built}
-use Rattle.cbor_parser.specs.Sink.{leaf_value}
+use Rattle.cbor_parser.{specs.Sink.leaf_value, proofs.CanonGiven.leaf-bytes}
 use Rattle.cbor_reader.proofs.KeysGiven.{takes, key-takes, given-kept, given-left}
 use Rattle.cbor_reader.proofs.key_bytes.KeyBytesSink.leaf.Goals as goal
-use Rattle.cbor_reader.proofs.CanonGiven.{leaf-bytes}
 
 pub leaf-requires-clause-takes : goal.leaf-requires-clause-takes
 leaf-requires-clause-takes c = takes c.args.is_key c.args.self.now c.requires.expected

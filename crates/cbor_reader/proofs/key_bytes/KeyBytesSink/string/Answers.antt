@@ -3,9 +3,10 @@ use Rattle.cbor_head.specs.{Prelude.canonical, Prelude.shortest_head, declared.m
 use Rattle.theory_values.specs.Parts.{give}
 use Rattle.cbor_builder.specs.Built.{Built, built}
 use Rattle.theory_verdicts.specs.Reading.{string_major, string_value}
+use Rattle.cbor_parser.proofs.CanonGiven.{string-bytes}
 use Rattle.cbor_reader.proofs.KeysGiven.{takes, key-takes, given-kept, given-left}
 use Rattle.cbor_reader.proofs.key_bytes.KeyBytesSink.string.Goals as goal
-use Rattle.cbor_reader.proofs.{CanonGiven.string-bytes, key_bytes.KeyBytesSink.string.Goals.Start}
+use Rattle.cbor_reader.proofs.key_bytes.KeyBytesSink.string.Goals.{Start}
 
 bytes : (c : Start) (o : KeyOrder) → canonical o (string_value c.args.is_text (take c.args.count c.args.prefix.now)) ≡ shortest_head (string_major c.args.is_text) c.args.count ++ take c.args.count c.args.prefix.now
 bytes c o =

@@ -1,6 +1,6 @@
-use Rattle.cbor_reader.proofs.CanonGiven.{none-reported, one-reported, no-repeat}
-use Rattle.cbor_reader.proofs.canonical_sink.CanonicalSinkSink.first_repeat.Goals as goal
-use Rattle.cbor_reader.proofs.RepeatsReported.{canon-finds}
+use Rattle.cbor_parser.proofs.CanonGiven.{none-reported, one-reported, no-repeat}
+use Rattle.cbor_parser.proofs.canonical_sink.CanonBuilderSink.first_repeat.Goals as goal
+use Rattle.cbor_parser.proofs.CanonRepeats.{canon-finds}
 
 pub returns : goal.returns
 returns c = record {

@@ -5,7 +5,6 @@ use Rattle.theory_values.specs.Parts as parts
 use Rattle.cbor_builder.specs.Built.{Built}
 use Rattle.theory_verdicts.specs.Levels.{Level, ParseState, item_expected, item_full, item_whole}
 use Rattle.theory_verdicts.specs.{Given.opens, Given.IsFull, Reading.string_major}
-use Rattle.cbor_reader.specs.declared.canonical_sink.CanonicalSink.{CanonicalSink}
 
 -- in its order of keys, it holds the canonical bytes of what is complete
 abbrev pub canon_stands : Built → Built → ParseState → Type 0
@@ -18,11 +17,3 @@ canon_stands start g (item_whole s) = (g.order ≡ start.order) × (g.open_level
 abbrev pub canon_holds : Built → Built → List Level → Bool → List ℕ → Type 0
 canon_holds start g ls is_text content =
     (g.order ≡ start.order) × (g.open_levels ≡ parts.a_string (string_major is_text) content ∷ opens start.order ls)
-
--- ---- the same for the sink
-
-abbrev pub sink_stands : CanonicalSink → CanonicalSink → ParseState → Type 0
-sink_stands start g st = canon_stands start.builder g.builder st
-
-abbrev pub sink_holds : CanonicalSink → CanonicalSink → List Level → Bool → List ℕ → Type 0
-sink_holds start g ls is_text content = canon_holds start.builder g.builder ls is_text content

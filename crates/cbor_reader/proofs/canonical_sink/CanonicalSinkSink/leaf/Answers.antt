@@ -1,8 +1,0 @@
-use Rattle.cbor_reader.proofs.CanonGiven.{takes, given, leaf-bytes}
-use Rattle.cbor_reader.proofs.canonical_sink.CanonicalSinkSink.leaf.Goals as goal
-
-pub leaf-requires-clause-takes : goal.leaf-requires-clause-takes
-leaf-requires-clause-takes c = takes c.args._is_key c.args.self.now c.requires.expected
-
-pub returns-clause-given : goal.returns-clause-given
-returns-clause-given c = given c.args._is_key _ _ c.args.self.now (record { builder = c.leaf.new.self }) (λ o. leaf-bytes o c.args.major c.args.number c.requires.kind) c.in_ok-leaf.ensures.given
