@@ -2,7 +2,7 @@ use Rattle.cbor_reader.proofs.ViewGiven.{expected, takes, opened}
 use Rattle.cbor_reader.proofs.view_sink.ViewSinkSink.begin.Goals as goal
 
 pub begin-requires : goal.begin-requires
-begin-requires c = (c.requires.kind, expected c.args.is_key c.args.self.now c.requires.expected)
+begin-requires c = record { kind = c.requires.kind; expected = expected c.args.is_key c.args.self.now c.requires.expected }
 
 pub begin-requires-2-clause-takes : goal.begin-requires-2-clause-takes
 begin-requires-2-clause-takes c = takes c.args.is_key c.args.self.now c.requires.expected

@@ -6,7 +6,7 @@ use Rattle.cbor_reader.proofs.view_sink.ViewSinkSink.end.Goals as goal
 use Rattle.cbor_reader.specs.{inner.KeyBytes.keys_stand, declared.key_bytes.KeyBytes.KeyBytes}
 
 pub end-requires : goal.end-requires
-end-requires c = keys-end c.args.is_map c.args.self.now c.requires.full
+end-requires c = record { full = keys-end c.args.is_map c.args.self.now c.requires.full }
 
 pub end-requires-2 : goal.end-requires-2
 end-requires-2 c = record { container = views-end c.args.is_map c.args.self.now c.requires.full }

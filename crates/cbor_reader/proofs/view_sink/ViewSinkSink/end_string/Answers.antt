@@ -9,13 +9,12 @@ use Rattle.cbor_reader.specs.{inner.KeyBytes.keys_stand, declared.key_bytes.KeyB
 pub string-requires : goal.string-requires
 string-requires c =
     let content = c.as_slice-content.result.now in
-    let whole = take_all (length content) content (omega arith) ∙ c.as_slice-content.ensures in (
-      omega arith,
-      (
-        (λ e. subst IsUtf8 (sym whole) (utf8-expected c.args.is_key c.args.is_text c.args.self.now c.requires.expected e)),
-        expected c.args.is_key c.args.self.now (whole-expected c.args.is_key c.args.is_text c.args.self.now c.requires.expected),
-      ),
-    )
+    let whole = take_all (length content) content (omega arith) ∙ c.as_slice-content.ensures in
+    record {
+      within = omega arith;
+      utf8 = λ e. subst IsUtf8 (sym whole) (utf8-expected c.args.is_key c.args.is_text c.args.self.now c.requires.expected e);
+      expected = expected c.args.is_key c.args.self.now (whole-expected c.args.is_key c.args.is_text c.args.self.now c.requires.expected);
+    }
 
 pub copied_text-requires : goal.copied_text-requires
 copied_text-requires c = record { takes = takes c.args.is_key c.args.self.now (whole-expected c.args.is_key c.args.is_text c.args.self.now c.requires.expected) }

@@ -6,7 +6,7 @@ use Rattle.cbor_reader.proofs.ViewGiven.{expected, takes, given}
 use Rattle.cbor_reader.proofs.view_sink.ViewSinkSink.leaf.Goals as goal
 
 pub leaf-requires : goal.leaf-requires
-leaf-requires c = (c.requires.kind, (c.requires.simple, expected c.args.is_key c.args.self.now c.requires.expected))
+leaf-requires c = record { kind = c.requires.kind; simple = c.requires.simple; expected = expected c.args.is_key c.args.self.now c.requires.expected }
 
 pub leaf-requires-2 : goal.leaf-requires-2
 leaf-requires-2 c = record { takes = takes c.args.is_key c.args.self.now c.requires.expected }

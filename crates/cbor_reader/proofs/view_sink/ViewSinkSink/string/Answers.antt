@@ -6,7 +6,7 @@ use Rattle.cbor_reader.proofs.ViewGiven.{expected, takes, given}
 use Rattle.cbor_reader.proofs.view_sink.ViewSinkSink.string.Goals as goal
 
 pub string-requires : goal.string-requires
-string-requires c = (c.requires.within, (c.requires.utf8, expected c.args.is_key c.args.self.now c.requires.expected))
+string-requires c = record { within = c.requires.within; utf8 = c.requires.utf8; expected = expected c.args.is_key c.args.self.now c.requires.expected }
 
 pub leaf-requires : goal.leaf-requires
 leaf-requires c = record { takes = takes c.args.is_key c.args.self.now c.requires.expected }
