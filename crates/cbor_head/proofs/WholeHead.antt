@@ -1,10 +1,10 @@
 -- Which bytes are one definite head.
-use Rattle.std.proofs.Common.{ℕ, ◌≡◌, List, [], ◌++◌, Option, Some, refl, sym, ap, ◌∙◌, subst, append-nil}
-use Rattle.cbor_head.specs.Prelude.{Holds, IsHead, head, head_parts, HoldsOrIndefinite}
+use Rattle.std.proofs.Common.{ℕ, ◌≡◌, List, ◌++◌, Some, refl, sym, ap, ◌∙◌, subst}
+use Rattle.cbor_head.specs.Prelude.{Holds, IsHead, head, HoldsOrIndefinite}
 use Rattle.cbor_head.specs.Read.{Prefix, prefix, read_head}
 use Rattle.cbor_head.specs.declared.{major.Major.Major, major.Major.TheVariants.Simple, width.Width.Width}
 use Rattle.cbor_head.specs.declared.width.Width.TheVariants.{One, Indefinite}
-use Rattle.cbor_head.proofs.{HeadLaws.reported, HeadLaws.read_head-head, HeadBack.ByPlace, HeadBack.read_head-back, Least.least}
+use Rattle.cbor_head.proofs.{HeadLaws.reported, HeadLaws.read_head-head, Least.least}
 
 -- a definite head has space for its argument
 pub head_holds : (m : Major) (w : Width) (n : ℕ) → IsHead m w n → Holds w n

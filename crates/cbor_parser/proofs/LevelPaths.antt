@@ -1,10 +1,10 @@
 -- The open containers of a valid item so far, of which no map has two keys that are the same, as the path to the item that is expected.
 use Rattle.std.proofs.Common.{◌≡◌, ℕ, suc, ◌+◌, ◌-◌, ◌^◌, ◌<◌, true, List, [], ◌∷◌, ◌++◌, length, refl, sym, ap, ap₂, ◌∙◌, subst, inl, inr, arith, Option, Some, ◌≢◌, length-append}
 use Rattle.std.proofs.lemmas.List.{map-append}
-use Rattle.cbor_head.specs.Prelude.{Pair, canonical, canonical_entries, plain, Complaint, complaint, IsRepeated, OfKey, ComplainsInEntries, head, Spelling, SpelledEntries, no_entries, entry, spell, spell_entries, entries_count, HoldsOrIndefinite, value_of, entries_of}
+use Rattle.cbor_head.specs.Prelude.{Pair, canonical, canonical_entries, plain, Complaint, complaint, IsRepeated, OfKey, head, Spelling, SpelledEntries, no_entries, entry, spell, spell_entries, entries_count, HoldsOrIndefinite, value_of, entries_of}
 use Rattle.cbor_head.specs.declared.major.Major.TheVariants as majors
 use Rattle.cbor_head.specs.declared.{order.KeyOrder.KeyOrder, reason.Reason.TheVariants.RepeatedKey, width.Width.Width, width.Width.TheVariants.Indefinite}
-use Rattle.theory_values.{specs.Parts.pair, proofs.Keys.distinct_exactly}
+use Rattle.theory_values.{specs.MemberComplaints.ComplainsInEntries, specs.Parts.pair, proofs.Keys.distinct_exactly}
 use Rattle.cbor_builder.specs.Built.{keys_so_far, AreAllDifferent, AreOpenKeysDifferent}
 use Rattle.cbor_builder.proofs.{KeysSoFar.different_distinct, Neighbours.keys}
 use Rattle.theory_verdicts.specs.Levels.{IsTaken, ArePairsTaken, Level, a_member, a_key, a_value, some_member, some_key, some_value, tagged, level_bytes, IsLevel, AreLevels, bytes_before}
@@ -82,7 +82,7 @@ module _ (o : KeyOrder) (d : ℕ) (es : SpelledEntries) (k : Spelling) (h : AreP
   before_quiet at c x = more_quiet at c (entries_left es (entry k zero_item no_entries) [] at c x)
 
   key_quiet : (at to : ℕ) → to ≡ at + length (spell_entries es) → Never (OfKey plain.keys to (keys_onto [] es) k)
-  key_quiet at to e c x = more_quiet at c (entries_right es (entry k zero_item no_entries) [] plain at to c e (inr (inl x)))
+  key_quiet at to e c x = more_quiet at c (entries_right es (entry k zero_item no_entries) [] plain (OfKey plain.keys) at to c e (inr (inl x)))
 
 -- ---- a level
 

@@ -1,4 +1,4 @@
-use Rattle.std.proofs.Common.{◌≡◌, ◌∙◌, ◌<◌, ◌++◌, ◌==◌, ℕ, List, [], refl, ap, sym, subst, arith, length, get_or, append-nil, eqb-true}
+use Rattle.std.proofs.Common.{◌∙◌, ◌++◌, ◌==◌, ℕ, List, [], refl, ap, sym, subst, arith, length, get_or, append-nil, eqb-true}
 use Rattle.std.proofs.lemmas.{Bool.false≢true, List.nil_from_length}
 use Rattle.cbor_head.specs.Head.{head, HeadParts, IsHead}
 use Rattle.cbor_head.proofs.Arguments.{no_bytes, head_here, reads_head, same_parts}
