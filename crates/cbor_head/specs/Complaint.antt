@@ -87,49 +87,42 @@ OfKey distinct at before k c = IsRepeated before k × (c ≡ complaint (at + len
 OfKey (rising o) at [] k c = ⊥
 OfKey (rising o) at (b ∷ bs) k c = ¬ IsTrue (key_lt o (spell b) (spell k)) × (c ≡ complaint (at + length (spell k)) at KeyOrderReason)
 
--- s, at an offset, has this complaint; OfKinds has the complaints on the kind of a key
+-- a key at an offset that is neither an integer nor a text: the complaint ends with its first byte
+abbrev pub OfKind : ℕ → List Spelling → Spelling → Complaint → Type 0
+OfKind at before k c = ¬ IsIntegerOrText (value_of k) × (c ≡ complaint (at + 1) at KeyKind)
+
+-- s, at an offset, has this complaint, where K has those of each key
 abbrev mutual
-  pub Complains : Rules → ℕ → Spelling → Complaint → Type 0
-  Complains r at (unsigned w n) c = OfHead r at Unsigned w n c
-  Complains r at (negative w n) c = OfHead r at Negative w n c
-  Complains r at (bytes w payload) c = OfString r at Bytes w payload c
-  Complains r at (text w payload) c = OfString r at Text w payload c
-  Complains r at (byte_chunks cs) c = OfIndefinite r at c ⊎ OfChunks r (at + 1) Bytes cs c
-  Complains r at (text_chunks cs) c = OfIndefinite r at c ⊎ OfChunks r (at + 1) Text cs c
-  Complains r at (array w ss) c = OfCount r at Array w (spellings_count ss) c ⊎ ComplainsIn r (at + length (head Array w (spellings_count ss))) ss c
-  Complains r at (a_map w es) c = OfCount r at Map w (entries_count es) c ⊎ ComplainsInEntries r (at + length (head Map w (entries_count es))) [] es c
-  Complains r at (tag w n s) c = OfHead r at Tag w n c ⊎ Complains r (at + length (head Tag w n)) s c
-  Complains r at (simple n) c = ⊥
+  pub ComplainsBy : Rules → (ℕ → List Spelling → Spelling → Complaint → Type 0) → ℕ → Spelling → Complaint → Type 0
+  ComplainsBy r K at (unsigned w n) c = OfHead r at Unsigned w n c
+  ComplainsBy r K at (negative w n) c = OfHead r at Negative w n c
+  ComplainsBy r K at (bytes w payload) c = OfString r at Bytes w payload c
+  ComplainsBy r K at (text w payload) c = OfString r at Text w payload c
+  ComplainsBy r K at (byte_chunks cs) c = OfIndefinite r at c ⊎ OfChunks r (at + 1) Bytes cs c
+  ComplainsBy r K at (text_chunks cs) c = OfIndefinite r at c ⊎ OfChunks r (at + 1) Text cs c
+  ComplainsBy r K at (array w ss) c = OfCount r at Array w (spellings_count ss) c ⊎ ComplainsInBy r K (at + length (head Array w (spellings_count ss))) ss c
+  ComplainsBy r K at (a_map w es) c = OfCount r at Map w (entries_count es) c ⊎ ComplainsInEntriesBy r K (at + length (head Map w (entries_count es))) [] es c
+  ComplainsBy r K at (tag w n s) c = OfHead r at Tag w n c ⊎ ComplainsBy r K (at + length (head Tag w n)) s c
+  ComplainsBy r K at (simple n) c = ⊥
 
   -- members from an offset on
-  pub ComplainsIn : Rules → ℕ → Spellings → Complaint → Type 0
-  ComplainsIn r at no_spellings c = ⊥
-  ComplainsIn r at (a_spelling s ss) c = Complains r at s c ⊎ ComplainsIn r (at + length (spell s)) ss c
+  pub ComplainsInBy : Rules → (ℕ → List Spelling → Spelling → Complaint → Type 0) → ℕ → Spellings → Complaint → Type 0
+  ComplainsInBy r K at no_spellings c = ⊥
+  ComplainsInBy r K at (a_spelling s ss) c = ComplainsBy r K at s c ⊎ ComplainsInBy r K (at + length (spell s)) ss c
 
   -- pairs from an offset on, after these keys
-  pub ComplainsInEntries : Rules → ℕ → List Spelling → SpelledEntries → Complaint → Type 0
-  ComplainsInEntries r at before no_entries c = ⊥
-  ComplainsInEntries r at before (entry k v es) c =
-      Complains r at k c ⊎ OfKey r.keys at before k c ⊎ Complains r (at + length (spell k)) v c
-      ⊎ ComplainsInEntries r (at + length (spell k) + length (spell v)) (k ∷ before) es c
+  pub ComplainsInEntriesBy : Rules → (ℕ → List Spelling → Spelling → Complaint → Type 0) → ℕ → List Spelling → SpelledEntries → Complaint → Type 0
+  ComplainsInEntriesBy r K at before no_entries c = ⊥
+  ComplainsInEntriesBy r K at before (entry k v es) c =
+      ComplainsBy r K at k c ⊎ K at before k c ⊎ ComplainsBy r K (at + length (spell k)) v c
+      ⊎ ComplainsInEntriesBy r K (at + length (spell k) + length (spell v)) (k ∷ before) es c
 
--- s, at an offset, has this complaint on a key that is neither an integer nor a text: it ends with the key's first byte
-abbrev mutual
-  pub OfKinds : ℕ → Spelling → Complaint → Type 0
-  OfKinds at (array w ss) c = OfKindsIn (at + length (head Array w (spellings_count ss))) ss c
-  OfKinds at (a_map w es) c = OfKindsInEntries (at + length (head Map w (entries_count es))) es c
-  OfKinds at (tag w n s) c = OfKinds (at + length (head Tag w n)) s c
-  OfKinds at _ c = ⊥
+abbrev pub Complains : Rules → ℕ → Spelling → Complaint → Type 0
+Complains r = ComplainsBy r (OfKey r.keys)
 
-  pub OfKindsIn : ℕ → Spellings → Complaint → Type 0
-  OfKindsIn at no_spellings c = ⊥
-  OfKindsIn at (a_spelling s ss) c = OfKinds at s c ⊎ OfKindsIn (at + length (spell s)) ss c
-
-  pub OfKindsInEntries : ℕ → SpelledEntries → Complaint → Type 0
-  OfKindsInEntries at no_entries c = ⊥
-  OfKindsInEntries at (entry k v es) c =
-      (¬ IsIntegerOrText (value_of k) × (c ≡ complaint (at + 1) at KeyKind)) ⊎ OfKinds at k c ⊎ OfKinds (at + length (spell k)) v c
-      ⊎ OfKindsInEntries (at + length (spell k) + length (spell v)) es c
+-- on the kinds of keys
+abbrev pub OfKinds : ℕ → Spelling → Complaint → Type 0
+OfKinds = ComplainsBy form OfKind
 
 -- an item has this complaint, within limits and by rules
 abbrev pub IsComplaint : Bounds → Rules → Spelling → Complaint → Type 0

@@ -1,13 +1,13 @@
 -- A valid item, part by part: the kinds of the keys that begin in what was read.
 use Rattle.std.proofs.Common.{◌≡◌, ℕ, suc, ◌+◌, ◌-◌, ◌<◌, ◌≤◌, Bool, false, true, List, [], ◌∷◌, ◌++◌, length, refl, sym, ap, ◌∙◌, subst, inl, inr, arith, append_assoc, append-nil, length-append}
 use Rattle.std.proofs.lemmas.List.{append_cancel_right, nil_from_length}
-use Rattle.cbor_head.specs.Prelude.{Complaint, plain, OfKinds, Holds, head, bounds, with_keys, Spelling, array, a_map, no_spellings, no_entries, spell, spell_all, spell_entries, spellings_count, entries_count, IsSpelled, depth}
+use Rattle.cbor_head.specs.Prelude.{Complaint, plain, OfKinds, Holds, head, bounds, with_keys, Spelling, array, a_map, no_spellings, no_entries, spell, spell_all, spell_entries, IsSpelled, depth}
 use Rattle.cbor_head.specs.Head as heads
 use Rattle.cbor_head.specs.Value as value
 use Rattle.cbor_head.specs.declared.major.Major.TheVariants as majors
 use Rattle.cbor_head.specs.declared.{keys.Keys.Keys, keys.Keys.TheVariants.IntegersAndTexts, major.Major.Major, width.Width.Width}
 use Rattle.cbor_head.specs.declared.width.Width.TheVariants.{Indefinite}
-use Rattle.theory_values.proofs.KeyKinds.{of_kind_in, of_kind_entries}
+use Rattle.theory_values.proofs.KeyKinds.{of_kind_array, of_kind_map}
 use Rattle.theory_verdicts.specs.Kinds.{KeepsToKinds, IsKeyLevel, IsKeyExpectedIn, HasBasicPrefix}
 use Rattle.theory_verdicts.specs.Levels.{Level, a_key, some_member, some_key, some_value, IsLevel, AreLevels, level_bytes, bytes_before, ParseState}
 use Rattle.theory_verdicts.proofs.KindBytes.{Begins, head_is_one, keeps_expected}
@@ -112,15 +112,11 @@ module _ (S : Type 0) (stands : S → S → ParseState → Type 0) (trusts : Boo
           let one : length (head majors.Array Indefinite 0) ≡ 1 = refl in
           let size = length-append (head majors.Array Indefinite 0) (spell_all done) in
           closed (some_member done) ls levels b t f (array Indefinite done) refl (tt, spelled-all (d - suc (length ls)) done levels.1) (omega (arith, levels.0, within-all (d - suc (length ls)) done levels.1)) (omega (arith, size, one))
-          (λ x o.
-          let other : length (head majors.Array Indefinite (spellings_count done)) ≡ 1 = refl in
-          omega (arith, size, one, other, (of_kind_in done (length (bytes_before ls) + length (head majors.Array Indefinite (spellings_count done))) x o).within))
+          (of_kind_array Indefinite done _)
       go (some_key done ∷ ls) levels e b t f =
           let one : length (head majors.Map Indefinite 0) ≡ 1 = refl in
           let size = length-append (head majors.Map Indefinite 0) (spell_entries done) in
           closed (some_key done) ls levels b t f (a_map Indefinite done) refl (tt, pairs-spelled (d - suc (length ls)) done levels.1) (omega (arith, levels.0, pairs-within (d - suc (length ls)) done levels.1)) (omega (arith, size, one))
-          (λ x o.
-          let other : length (head majors.Map Indefinite (entries_count done)) ≡ 1 = refl in
-          omega (arith, size, one, other, (of_kind_entries done (length (bytes_before ls) + length (head majors.Map Indefinite (entries_count done))) x o).within))
+          (of_kind_map Indefinite done _)
       go (some_value done k ∷ ls) levels e b t f = absurd (h.no_value (ap (λ (x : Cell). x.expected) (cell-is (length input) (some_value done k) ls e)))
       go (l ∷ ls) levels e b t f = absurd (cc (ap (λ (x : Cell). x.is_indefinite) (sym (cell-is (length input) l ls e)) ∙ h.open_ended))

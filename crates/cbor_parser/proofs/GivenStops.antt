@@ -4,8 +4,9 @@ use Rattle.cbor_head.specs.Prelude.{plain, Bounds, AreBytes, IsVerdict, refused}
 use Rattle.cbor_head.specs.declared.{keys.Keys.TheVariants.IntegersAndTexts, reason.Refusal.Refusal}
 use Rattle.theory_verdicts.specs.Levels.{Level, ParseState, bytes_before}
 use Rattle.theory_verdicts.specs.Path as path
+use Rattle.theory_verdicts.proofs.LevelFrames.{paths_of, paths_length, paths_bytes}
 use Rattle.theory_verdicts.{specs.Kinds.KeepsToKinds, specs.Stop.IsStopped, specs.Stop.IsAnswered, proofs.PathVerdict.stopped}
-use Rattle.cbor_parser.proofs.LevelPaths.{paths_of, paths_length, paths_bytes, paths_clean, path_expected, breaks_path}
+use Rattle.cbor_parser.proofs.LevelPaths.{paths_clean, path_expected, breaks_path}
 use Rattle.cbor_parser.specs.{inner.Parser.IsExpected, inner.Parser.HasCome, Stack.around, Stack.open_levels, declared.container.Expected.Expected}
 use Rattle.cbor_parser.specs.declared.{container.Expected.TheVariants.Key, container.Expected.TheVariants.Value, stack.Stack.Stack}
 use Rattle.cbor_parser.{proofs.Stacks.open_levels_count, specs.Sink.AreKeysDistinct, specs.inner.Kept.KeepsBefore, specs.inner.Faults.IsFault}

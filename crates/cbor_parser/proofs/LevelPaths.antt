@@ -1,16 +1,17 @@
 -- The open containers of a valid item so far, of which no map has two keys that are the same, as the path to the item that is expected.
-use Rattle.std.proofs.Common.{◌≡◌, ℕ, suc, ◌+◌, ◌-◌, ◌^◌, ◌<◌, true, List, [], ◌∷◌, ◌++◌, length, refl, sym, ap, ap₂, ◌∙◌, subst, inl, inr, arith, Option, Some, ◌≢◌, length-append}
+use Rattle.std.proofs.Common.{◌≡◌, ℕ, suc, ◌+◌, ◌-◌, ◌^◌, ◌<◌, true, List, [], ◌∷◌, ◌++◌, length, refl, sym, ap, ◌∙◌, subst, inl, inr, arith, Option, Some, ◌≢◌, length-append}
 use Rattle.std.proofs.lemmas.List.{map-append}
-use Rattle.cbor_head.specs.Prelude.{Pair, canonical, canonical_entries, plain, Complaint, complaint, IsRepeated, OfKey, ComplainsInEntries, head, Spelling, SpelledEntries, no_entries, entry, spell, spell_entries, entries_count, HoldsOrIndefinite, value_of, entries_of}
+use Rattle.cbor_head.specs.Prelude.{Pair, canonical, canonical_entries, plain, Complaint, complaint, IsRepeated, OfKey, head, Spelling, SpelledEntries, no_entries, entry, spell, spell_entries, entries_count, HoldsOrIndefinite, value_of, entries_of}
 use Rattle.cbor_head.specs.declared.major.Major.TheVariants as majors
 use Rattle.cbor_head.specs.declared.{order.KeyOrder.KeyOrder, reason.Reason.TheVariants.RepeatedKey, width.Width.Width, width.Width.TheVariants.Indefinite}
-use Rattle.theory_values.{specs.Parts.pair, proofs.Keys.distinct_exactly}
+use Rattle.theory_values.{specs.MemberComplaints.ComplainsInEntries, specs.Parts.pair, proofs.Keys.distinct_exactly}
 use Rattle.cbor_builder.specs.Built.{keys_so_far, AreAllDifferent, AreOpenKeysDifferent}
 use Rattle.cbor_builder.proofs.{KeysSoFar.different_distinct, Neighbours.keys}
 use Rattle.theory_verdicts.specs.Levels.{IsTaken, ArePairsTaken, Level, a_member, a_key, a_value, some_member, some_key, some_value, tagged, level_bytes, IsLevel, AreLevels, bytes_before}
 use Rattle.theory_verdicts.proofs.Levels.{no-count, spelled-all, within-all, clean-all, pairs-spelled, pairs-within, pairs-more, pairs-clean}
 use Rattle.theory_verdicts.specs.Path as path
 use Rattle.theory_verdicts.specs.Path.{IsClean, AreClean, IsKeyExpectedIn, MayBreak}
+use Rattle.theory_verdicts.proofs.LevelFrames.{path_of, paths_of, paths_length, paths_bytes}
 use Rattle.theory_verdicts.specs.{Frame.with_entries, Frame.keys_onto, Given.level_open, Given.opens, Judged.IsJudged, Judged.Never}
 use Rattle.theory_verdicts.{specs.SoFar.IsMapSoFar, specs.SoFar.map_bytes, proofs.Frames.entries_right, proofs.Frames.spell_entries_with}
 use Rattle.theory_verdicts.proofs.{Given.pairs-valid, Given.entries-more, Heads.open_or, Judged.zero_item, Valid.in_range_entries}
@@ -19,33 +20,6 @@ use Rattle.cbor_parser.specs.declared.container.Expected.TheVariants.{Item, Key,
 use Rattle.cbor_parser.specs.inner.OpenContainer.{behind_head, cell_of, cells_of, counted}
 use Rattle.cbor_parser.specs.inner.OpenContainer.{Cell}
 use Rattle.cbor_parser.{specs.Sink.IsKeyBehind, proofs.GivenParts.cell-is}
-
--- ---- the path
-
-abbrev pub path_of : Level → path.Level
-path_of (a_member w left done) = path.a_member w left done
-path_of (a_key w left done) = path.a_key w left done
-path_of (a_value w left done k) = path.a_value w left done k
-path_of (some_member done) = path.a_member Indefinite 0 done
-path_of (some_key done) = path.a_key Indefinite 0 done
-path_of (some_value done k) = path.a_value Indefinite 0 done k
-path_of (tagged w n) = path.tagged w n
-
-abbrev pub paths_of : List Level → List path.Level
-paths_of [] = []
-paths_of (l ∷ ls) = path_of l ∷ paths_of ls
-
-pub paths_length : (ls : List Level) → length (paths_of ls) ≡ length ls
-paths_length [] = refl
-paths_length (l ∷ ls) = ap suc (paths_length ls)
-
-path_bytes : (l : Level) → path.level_bytes (path_of l) ≡ level_bytes l
-path_bytes (a_member w left done) = refl
-path_bytes _ = refl
-
-pub paths_bytes : (ls : List Level) → path.bytes_before (paths_of ls) ≡ bytes_before ls
-paths_bytes [] = refl
-paths_bytes (l ∷ ls) = ap₂ (λ (x y : List ℕ). x ++ y) (paths_bytes ls) (path_bytes l)
 
 -- ---- keys
 
@@ -82,7 +56,7 @@ module _ (o : KeyOrder) (d : ℕ) (es : SpelledEntries) (k : Spelling) (h : AreP
   before_quiet at c x = more_quiet at c (entries_left es (entry k zero_item no_entries) [] at c x)
 
   key_quiet : (at to : ℕ) → to ≡ at + length (spell_entries es) → Never (OfKey plain.keys to (keys_onto [] es) k)
-  key_quiet at to e c x = more_quiet at c (entries_right es (entry k zero_item no_entries) [] plain at to c e (inr (inl x)))
+  key_quiet at to e c x = more_quiet at c (entries_right es (entry k zero_item no_entries) [] plain (OfKey plain.keys) at to c e (inr (inl x)))
 
 -- ---- a level
 

@@ -116,14 +116,14 @@ module _ (o : KeyOrder) (d : ℕ) where
   pub an-unsigned : (low : ℕ) (behind rest : List ℕ) (n : ℕ) → IsShortest low behind n rest → IsItemThen o d (low ∷ behind) rest
   an-unsigned low behind rest n s = record {
     item = unsigned (shortest n) n;
-    fine = record { spelled = Holds-shortest n s.range; within = omega arith; clean = λ at c x. x.1 refl; keyless = λ at c x. x };
+    fine = record { spelled = Holds-shortest n s.range; within = omega arith; clean = λ at c x. x.1 refl; keyless = λ at c x. cc x.0 };
     bytes = let e : low ≡ 0 + low = omega arith in ap (λ (j : ℕ). j ∷ behind) e ∙ s.spelled 0;
   }
 
   pub a-negative : (low : ℕ) (behind rest : List ℕ) (n : ℕ) → IsShortest low behind n rest → IsItemThen o d ((32 + low) ∷ behind) rest
   a-negative low behind rest n s = record {
     item = negative (shortest n) n;
-    fine = record { spelled = Holds-shortest n s.range; within = omega arith; clean = λ at c x. x.1 refl; keyless = λ at c x. x };
+    fine = record { spelled = Holds-shortest n s.range; within = omega arith; clean = λ at c x. x.1 refl; keyless = λ at c x. cc x.0 };
     bytes = s.spelled 32;
   }
 
@@ -134,7 +134,7 @@ module _ (o : KeyOrder) (d : ℕ) where
   some-bytes low behind p rest n s e b =
       record {
         item = bytes (shortest (length p)) p;
-        fine = record { spelled = (Holds-shortest (length p) (omega (arith, s.range, e)), b); within = omega arith; clean = λ at c x. x.1 refl; keyless = λ at c x. x };
+        fine = record { spelled = (Holds-shortest (length p) (omega (arith, s.range, e)), b); within = omega arith; clean = λ at c x. x.1 refl; keyless = λ at c x. cc x.0 };
         bytes = s.spelled 64 ∙ sym (append_assoc (head Bytes (shortest n) n) p rest) ∙ ap (λ k. (head Bytes (shortest k) k ++ p) ++ rest) e;
       }
 
@@ -142,20 +142,20 @@ module _ (o : KeyOrder) (d : ℕ) where
   a-text low behind p rest n s e b u =
       record {
         item = text (shortest (length p)) p;
-        fine = record { spelled = (Holds-shortest (length p) (omega (arith, s.range, e)), b); within = omega arith; clean = λ at c x. elim x [ inl y ↦ y.1 refl | inr y ↦ y.1 u ]; keyless = λ at c x. x };
+        fine = record { spelled = (Holds-shortest (length p) (omega (arith, s.range, e)), b); within = omega arith; clean = λ at c x. elim x [ inl y ↦ y.1 refl | inr y ↦ y.1 u ]; keyless = λ at c x. elim x [ inl y ↦ cc y.0 | inr y ↦ cc y.0 ] };
         bytes = s.spelled 96 ∙ sym (append_assoc (head Text (shortest n) n) p rest) ∙ ap (λ k. (head Text (shortest k) k ++ p) ++ rest) e;
       }
 
   pub no-array : (behind : List ℕ) → 0 < d → IsItemThen o d (128 ∷ behind) behind
   no-array behind l = record {
     item = array Direct no_spellings;
-    fine = record { spelled = (omega arith, tt); within = omega (arith, l); clean = λ at c x. elim x [ inl y ↦ y.1 refl | inr y ↦ y ]; keyless = λ at c x. x };
+    fine = record { spelled = (omega arith, tt); within = omega (arith, l); clean = λ at c x. elim x [ inl y ↦ y.1 refl | inr y ↦ y ]; keyless = λ at c x. elim x [ inl y ↦ cc y.0 | inr y ↦ y ] };
     bytes = refl;
   }
 
   pub no-map : (behind : List ℕ) → 0 < d → IsItemThen o d (160 ∷ behind) behind
   no-map behind l = record {
     item = a_map Direct no_entries;
-    fine = record { spelled = (omega arith, tt); within = omega (arith, l); clean = λ at c x. elim x [ inl y ↦ y.1 refl | inr y ↦ y ]; keyless = λ at c x. x };
+    fine = record { spelled = (omega arith, tt); within = omega (arith, l); clean = λ at c x. elim x [ inl y ↦ y.1 refl | inr y ↦ y ]; keyless = λ at c x. elim x [ inl y ↦ cc y.0 | inr y ↦ y ] };
     bytes = refl;
   }

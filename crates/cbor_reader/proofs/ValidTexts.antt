@@ -2,9 +2,9 @@
 use Rattle.std.proofs.Common.{ℕ, ◌↔◌, List, [], ◌∷◌, refl, inl, inr, IsUtf8, IsTrue}
 use Rattle.std.specs.List.{AllByRecursion}
 use Rattle.cbor_head.specs.Value as value
-use Rattle.cbor_head.specs.Prelude.{Value, Entries, HasEntry, HasDistinctKeys, Same, IsValid, AreValid, AreEntriesValid, Chunk, Spelling, Spellings, SpelledEntries, unsigned, negative, bytes, text, byte_chunks, text_chunks, array, a_map, tag, simple, no_spellings, a_spelling, no_entries, entry, spellings_count, entries_count, value_of, values_of, entries_of, Rules, plain, IsRepeated, OfPayload, OfChunks, Complains, ComplainsIn, ComplainsInEntries}
+use Rattle.cbor_head.specs.Prelude.{Value, Entries, HasEntry, HasDistinctKeys, Same, IsValid, AreValid, AreEntriesValid, Chunk, Spelling, Spellings, SpelledEntries, unsigned, negative, bytes, text, byte_chunks, text_chunks, array, a_map, tag, simple, no_spellings, a_spelling, no_entries, entry, spellings_count, entries_count, value_of, values_of, entries_of, Rules, plain, IsRepeated, OfPayload, OfChunks, Complains}
 use Rattle.cbor_head.specs.declared.major.Major.TheVariants.{Bytes, Text, Array, Map}
-use Rattle.theory_values.proofs.Stable.{utf8_stable}
+use Rattle.theory_values.{specs.MemberComplaints.ComplainsIn, specs.MemberComplaints.ComplainsInEntries, proofs.Stable.utf8_stable}
 use Rattle.theory_verdicts.{specs.Judged.Never, proofs.Levels.no-count, proofs.Valid.valid_of}
 use Rattle.cbor_reader.specs.Headline.{HasValidTexts, HaveValidTexts, EntriesHaveValidTexts}
 

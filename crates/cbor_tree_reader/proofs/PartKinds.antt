@@ -1,12 +1,12 @@
 -- The kinds of keys in what was read: of the first byte of a head, of what a part is, and after a break.
-use Rattle.std.proofs.Common.{◌≡◌, ap, ◌∙◌, ◌≢◌, ◌↔◌, ℕ, suc, ◌+◌, ◌-◌, ◌^◌, ◌<◌, true, false, Bool, List, [], ◌∷◌, ◌++◌, length, map, refl, sym, subst, arith, append_assoc, length-append}
+use Rattle.std.proofs.Common.{◌≡◌, ap, ◌∙◌, ◌≢◌, ◌↔◌, ℕ, suc, ◌-◌, ◌^◌, ◌<◌, true, false, Bool, List, [], ◌∷◌, ◌++◌, length, map, refl, sym, subst, arith, append_assoc, length-append}
 use Rattle.cbor_head.specs.Prelude.{plain, Complaint, OfKinds, head, Bounds, Spelling, array, a_map, tag, spell_all, spell_entries, spellings_count, value_of, Value}
 use Rattle.cbor_head.specs.Value as value
 use Rattle.cbor_head.specs.declared.major.Major.TheVariants as majors
 use Rattle.cbor_head.specs.declared.event.EventKind.TheVariants as kinds
 use Rattle.cbor_head.specs.declared.{event.EventKind.EventKind, major.Major.Major, order.KeyOrder.KeyOrder, order.KeyOrder.TheVariants.Bytewise}
 use Rattle.cbor_head.specs.declared.width.Width.{Width, TheVariants.Indefinite}
-use Rattle.theory_values.proofs.KeyKinds.{of_kind_in, of_kind_entries}
+use Rattle.theory_values.proofs.{KeyKinds.of_kind_array, KeyKinds.of_kind_map, Reasons.none_by_form}
 use Rattle.theory_automaton.specs.{Marks.mark_of, Marks.count_of, Trace.a_head}
 use Rattle.cbor_builder.specs.Built.{IsKeyExpected}
 use Rattle.theory_verdicts.specs.Kinds.{KeepsToKinds, IsKeyExpectedIn, IsOfOneHead, HasBasicPrefix}
@@ -69,7 +69,7 @@ pub no-kinds : (s : Spelling) → HoldsNone (value_of s) → (at : ℕ) (c : Com
 no-kinds (array w ss) h at c o = h
 no-kinds (a_map w es) h at c o = h
 no-kinds (tag w n s) h at c o = h
-no-kinds _ h at c o = o
+no-kinds s h at c o = none_by_form at s c o
 
 -- ---- after a break
 
@@ -82,7 +82,7 @@ module _ (b : Bounds) where
       let at = length (bytes_before ms) in
       subst (KeepsToKinds b plain) (sym (append_assoc (bytes_before ms) (opener ++ spell_all done) (0xff ∷ [])))
       (keeps_closed b plain (around_levels b.depth ms h.2) (array Indefinite done) (opener ++ spell_all done) (0xff ∷ []) full.spelled full.within refl (omega (arith, size))
-      (λ c o. omega (arith, size, (of_kind_in done (at + length opener) c o).within)) keeps)
+      (of_kind_array Indefinite done at) keeps)
   keeps-broken (some_key done ∷ ms) next h s x keeps =
       let opener = head majors.Map Indefinite 0 in
       let size = length-append opener (spell_entries done) in
@@ -90,5 +90,5 @@ module _ (b : Bounds) where
       let at = length (bytes_before ms) in
       subst (KeepsToKinds b plain) (sym (append_assoc (bytes_before ms) (opener ++ spell_entries done) (0xff ∷ [])))
       (keeps_closed b plain (around_levels b.depth ms h.2) (a_map Indefinite done) (opener ++ spell_entries done) (0xff ∷ []) full.spelled full.within refl (omega (arith, size))
-      (λ c o. omega (arith, size, (of_kind_entries done (at + length opener) c o).within)) keeps)
+      (of_kind_map Indefinite done at) keeps)
   keeps-broken _ next h s x keeps = absurd x

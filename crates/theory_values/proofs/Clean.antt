@@ -1,13 +1,13 @@
 -- The normal spelling has no strict complaint.
 use Rattle.std.proofs.Common.{◌≡◌, ℕ, ◌+◌, ◌^◌, ◌<◌, List, [], ◌∷◌, length, inl, inr, refl, sym, ap, subst, IsTrue}
 use Rattle.cbor_head.specs.Value as value
-use Rattle.cbor_head.specs.Prelude.{Holds, shortest, Value, Values, Entries, values_count, AreInRange, AreValid, AreEntriesInRange, AreEntriesValid, Spelling, SpelledEntries, no_entries, entry, spell, key_lt, Pair, canonical_entries, strict, Complaint, ComplainsIn, ComplainsInEntries, OfCount, OfKey}
+use Rattle.cbor_head.specs.Prelude.{Holds, shortest, Value, Values, Entries, values_count, AreInRange, AreValid, AreEntriesInRange, AreEntriesValid, Spelling, SpelledEntries, no_entries, entry, spell, key_lt, Pair, canonical_entries, strict, Complaint, OfCount, OfKey}
 use Rattle.cbor_head.specs.declared.{order.KeyOrder.KeyOrder, major.Major.Major, major.Major.TheVariants.Array, major.Major.TheVariants.Map, width.Width.Width}
 use Rattle.cbor_head.specs.declared.width.Width.TheVariants.{Indefinite}
 use Rattle.theory_values.proofs.Induction.{AllOf, AllIn, by_cases}
 use Rattle.theory_values.proofs.Normal.{normal, normal_all, normal_entries, pairs, AllSpelled, put_entry-all, pairs-normal, entries_count-normal, spellings_count-normal, Holds-shortest}
-use Rattle.theory_values.{specs.CanonicalSpelling.IsClean, specs.Pairs.IsRising, proofs.Members.In, proofs.Sorting.rises_at, proofs.Sorting.in_order_rising}
-use Rattle.theory_values.proofs.{Sound.IsSound, Sound.sound, Reported.distinct_bytes}
+use Rattle.theory_values.specs.{MemberComplaints.ComplainsIn, MemberComplaints.ComplainsInEntries, CanonicalSpelling.IsClean, Pairs.IsRising}
+use Rattle.theory_values.proofs.{Members.In, Sorting.rises_at, Sorting.in_order_rising, Sound.IsSound, Sound.sound, Reported.distinct_bytes}
 
 count_clean : (o : KeyOrder) (at : ℕ) (m : Major) (w : Width) (n : ℕ) (c : Complaint) → Holds w n → w ≡ shortest n → OfCount (strict o) at m w n c → ⊥
 count_clean o at m Indefinite n c h e x = absurd h

@@ -4,8 +4,8 @@ use Rattle.std.proofs.Common.{ℕ, ◌≡◌, ◌≤◌, List, ◌++◌, length,
 use Rattle.std.proofs.lemmas.Bool.{cases_lt}
 use Rattle.cbor_head.specs.Prelude.{Bounds, Spelling, spell, IsItem, Rules, Complaint, OfKinds, Complains, IsComplaint, rank, IsFirstOf, HasNoneOf}
 use Rattle.cbor_head.specs.declared.keys.Keys.TheVariants.{IntegersAndTexts}
-use Rattle.theory_values.proofs.{Agree.same_complaints, KeyKinds.of_kind, KeyKinds.one_kind, KindsAgree.same_kinds, OneFirst.bounded, OneFirst.apart}
-use Rattle.theory_values.proofs.Reasons.{ranked}
+use Rattle.theory_values.proofs.KeyKinds.{of_kind, one_kind, same_kinds}
+use Rattle.theory_values.proofs.{Agree.same_complaints, OneFirst.bounded, OneFirst.apart, Reasons.ranked}
 
 -- Items that start with the same bytes have the same complaints that end within these; and no two of an item end at one offset
 -- with one rank.

@@ -22,7 +22,7 @@ abbrev array_key : Spelling
 array_key = a_map Direct (pairs ((array Direct (members []), unsigned Direct 0) ∷ []))
 
 array_key-verdict : IsVerdict (basic 1048576) plain (0xa1 ∷ 0x80 ∷ 0x00 ∷ []) (refused (refusal KeyKind 1 2))
-array_key-verdict = of_kind _ _ _ _ array_key [] 1 refl refl (search arith) (omega arith) refl (inl ((λ x. x), refl)) (omega arith) (λ e h. grind arith)
+array_key-verdict = of_kind _ _ _ _ array_key [] 1 refl refl (search arith) (omega arith) refl (inr (inr (inl ((λ x. x), refl)))) (omega arith) (λ e h. grind arith)
 
 -- ---- {0: {[]: 0}}: in a map within
 
@@ -30,7 +30,7 @@ abbrev key_within : Spelling
 key_within = a_map Direct (pairs ((unsigned Direct 0, array_key) ∷ []))
 
 key_within-verdict : IsVerdict (basic 1048576) plain (0xa1 ∷ 0x00 ∷ 0xa1 ∷ 0x80 ∷ 0x00 ∷ []) (refused (refusal KeyKind 3 4))
-key_within-verdict = of_kind _ _ _ _ key_within [] 3 refl refl (search arith) (omega arith) refl (inr (inr (inl (inl ((λ x. x), refl))))) (omega arith) (λ e h. grind arith)
+key_within-verdict = of_kind _ _ _ _ key_within [] 3 refl refl (search arith) (omega arith) refl (inr (inr (inr (inl (inr (inr (inl ((λ x. x), refl)))))))) (omega arith) (λ e h. grind arith)
 
 -- ---- {simple(32): 0}, cut after the key's first byte: the kind is reported by that byte, before the input or the limit ends
 
@@ -38,10 +38,10 @@ abbrev simple_key : Spelling
 simple_key = a_map Direct (pairs ((simple 32, unsigned Direct 0) ∷ []))
 
 simple_key-cut : IsVerdict (basic 1048576) plain (0xa1 ∷ 0xf8 ∷ []) (refused (refusal KeyKind 1 2))
-simple_key-cut = of_kind _ _ _ _ simple_key (0x20 ∷ 0x00 ∷ []) 1 refl refl (search arith) (omega arith) refl (inl ((λ x. x), refl)) (omega arith) (λ e h. grind arith)
+simple_key-cut = of_kind _ _ _ _ simple_key (0x20 ∷ 0x00 ∷ []) 1 refl refl (search arith) (omega arith) refl (inr (inr (inl ((λ x. x), refl)))) (omega arith) (λ e h. grind arith)
 
 simple_key-at_limit : IsVerdict (basic 2) plain (0xa1 ∷ 0xf8 ∷ []) (refused (refusal KeyKind 1 2))
-simple_key-at_limit = of_kind _ _ _ _ simple_key (0x20 ∷ 0x00 ∷ []) 1 refl refl (search arith) (omega arith) refl (inl ((λ x. x), refl)) (omega arith) (λ e h. grind arith)
+simple_key-at_limit = of_kind _ _ _ _ simple_key (0x20 ∷ 0x00 ∷ []) 1 refl refl (search arith) (omega arith) refl (inr (inr (inl ((λ x. x), refl)))) (omega arith) (λ e h. grind arith)
 
 -- ---- {"": 0}, the text in chunks
 
@@ -57,7 +57,7 @@ abbrev open_key : Spelling
 open_key = a_map Direct (pairs ((array Indefinite (members []), unsigned Direct 0) ∷ []))
 
 open_key-verdict : IsVerdict (basic 1048576) (strict Bytewise) (0xa1 ∷ 0x9f ∷ 0xff ∷ 0x00 ∷ []) (refused (refusal KeyKind 1 2))
-open_key-verdict = of_kind _ _ _ _ open_key [] 1 refl refl (search arith) (omega arith) refl (inl ((λ x. x), refl)) (omega arith) (λ e h. grind arith)
+open_key-verdict = of_kind _ _ _ _ open_key [] 1 refl refl (search arith) (omega arith) refl (inr (inr (inl ((λ x. x), refl)))) (omega arith) (λ e h. grind arith)
 
 -- for keys of any kind that of the head is the only one
 open_key-any : IsVerdict (bounds 256 1048576) (strict Bytewise) (0xa1 ∷ 0x9f ∷ 0xff ∷ 0x00 ∷ []) (refused (refusal IndefiniteReason 1 2))

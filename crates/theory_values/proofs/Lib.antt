@@ -20,7 +20,6 @@ pub mod KeyKinds
 pub mod KeyWords
 pub mod Keys
 mod KindExamples
-pub mod KindsAgree
 pub mod KindsUnasked
 pub mod Lists
 pub mod Members

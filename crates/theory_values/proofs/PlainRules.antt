@@ -2,12 +2,13 @@
 -- on a text is a plain one.
 use Rattle.std.proofs.Common.{◌≡◌, ℕ, ◌+◌, ◌≤◌, List, [], ◌∷◌, length, inl, inr, refl, sym, ap, ◌∙◌, subst, arith, IsTrue, true≢false}
 use Rattle.std.proofs.lemmas.Bool.{true_from_ne_false}
-use Rattle.cbor_head.specs.Prelude.{key_lt, Chunk, Spelling, Spellings, SpelledEntries, unsigned, negative, bytes, text, byte_chunks, text_chunks, array, a_map, tag, simple, no_spellings, a_spelling, no_entries, entry, spell, spellings_count, entries_count, value_of, IsSpelled, AreSpelled, AreEntriesSpelled, plain, strict, Complaint, Complains, ComplainsIn, ComplainsInEntries, OfHead, OfIndefinite, OfCount, OfChunks, OfKey, distinct, rising, IsRepeated}
+use Rattle.cbor_head.specs.Prelude.{key_lt, Chunk, Spelling, Spellings, SpelledEntries, unsigned, negative, bytes, text, byte_chunks, text_chunks, array, a_map, tag, simple, no_spellings, a_spelling, no_entries, entry, spell, spellings_count, entries_count, value_of, IsSpelled, AreSpelled, AreEntriesSpelled, plain, strict, Complaint, Complains, OfHead, OfIndefinite, OfCount, OfChunks, OfKey, distinct, rising, IsRepeated}
 use Rattle.cbor_head.specs.declared.major.Major.TheVariants.{Unsigned, Negative, Bytes, Text, Array, Map, Tag}
 use Rattle.cbor_head.specs.declared.reason.Reason.TheVariants.{InvalidText, NotShortest, Indefinite as IndefiniteReason, KeyOrder as KeyOrderReason}
 use Rattle.cbor_head.specs.declared.{order.KeyOrder.KeyOrder, major.Major.Major, width.Width.Width, width.Width.TheVariants.Indefinite}
 use Rattle.theory_values.proofs.Ends.{chunks_later, key_end, later_entries}
-use Rattle.theory_values.proofs.{OneFirst.bounded, Keys.same_exactly, Orders.lt_irrefl, Orders.lt_trans, Strict.IsStrict, Strict.strict_spelling}
+use Rattle.theory_values.{specs.MemberComplaints.ComplainsIn, specs.MemberComplaints.ComplainsInEntries, proofs.OneFirst.bounded, proofs.Keys.same_exactly}
+use Rattle.theory_values.proofs.{Orders.lt_irrefl, Orders.lt_trans, Strict.IsStrict, Strict.strict_spelling}
 
 -- ---- the plain rules require nothing of heads
 

@@ -2,15 +2,15 @@
 use Rattle.std.proofs.Common.{◌≡◌, ℕ, ◌+◌, ◌^◌, ◌<◌, List, [], ◌∷◌, ◌++◌, length, inl, inr, refl, sym, ap, ◌∙◌, subst, arith, append-nil, IsTrue, flat_map, true≢false}
 use Rattle.std.proofs.lemmas.Bool.{true_from_ne_false}
 use Rattle.cbor_head.specs.Value as value
-use Rattle.cbor_head.specs.Prelude.{shortest, shortest_head, head, values_count, AreInRange, AreValid, AreEntriesInRange, AreEntriesValid, Spelling, Spellings, SpelledEntries, unsigned, negative, bytes, text, byte_chunks, text_chunks, array, a_map, tag, simple, no_spellings, a_spelling, no_entries, entry, spell, spell_all, spell_entries, spellings_count, entries_count, break_of, value_of, values_of, entries_of, IsSpelled, AreSpelled, AreEntriesSpelled, HoldsOrIndefinite, key_lt, Pair, in_order, canonical, canonical_all, canonical_entries, strict, Complaint, Complains, ComplainsIn, ComplainsInEntries, OfHead, OfCount}
+use Rattle.cbor_head.specs.Prelude.{shortest, shortest_head, head, values_count, AreInRange, AreValid, AreEntriesInRange, AreEntriesValid, Spelling, Spellings, SpelledEntries, unsigned, negative, bytes, text, byte_chunks, text_chunks, array, a_map, tag, simple, no_spellings, a_spelling, no_entries, entry, spell, spell_all, spell_entries, spellings_count, entries_count, break_of, value_of, values_of, entries_of, IsSpelled, AreSpelled, AreEntriesSpelled, HoldsOrIndefinite, key_lt, Pair, in_order, canonical, canonical_all, canonical_entries, strict, Complaint, Complains, OfHead, OfCount}
 use Rattle.cbor_head.specs.declared.major.Major.TheVariants.{Unsigned, Negative, Bytes, Text, Array, Map, Tag}
 use Rattle.cbor_head.specs.declared.{order.KeyOrder.KeyOrder, major.Major.Major, width.Width.Width, width.Width.TheVariants.Indefinite}
 use Rattle.theory_values.proofs.Counts.{holds_fits, values_count-of, entries_count-of}
 use Rattle.theory_values.proofs.Sorting.{rising_cons, rising_distinct, in_order-rising}
 use Rattle.theory_values.proofs.Sound.{IsSound, sound, valid_apart}
 use Rattle.theory_values.proofs.Normal.{pairs, spell_entries-pairs, break_of-shortest}
-use Rattle.theory_values.{specs.Pairs.IsRising, specs.Pairs.pair_bytes, proofs.Members.In, proofs.Orders.lt_trans}
-use Rattle.theory_values.proofs.{Stable.width_stable, Stable.utf8_stable, Keys.distinct_from_bytes}
+use Rattle.theory_values.specs.{MemberComplaints.ComplainsIn, MemberComplaints.ComplainsInEntries, Pairs.IsRising, Pairs.pair_bytes}
+use Rattle.theory_values.proofs.{Members.In, Orders.lt_trans, Stable.width_stable, Stable.utf8_stable, Keys.distinct_from_bytes}
 
 -- ---- spelled pairs without complaint
 

@@ -3,6 +3,7 @@ pub mod FirstBytes
 pub mod KeyPrefix
 pub mod Lists
 pub mod Lookup
+pub mod MemberComplaints
 pub mod Pairs
 pub mod Parts
 pub mod StrictReasons

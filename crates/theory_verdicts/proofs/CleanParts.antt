@@ -1,6 +1,6 @@
 -- What is complete in the open containers has no complaint if the whole is known to have none.
 use Rattle.std.proofs.Common.{◌≡◌, ℕ, ◌+◌, ◌-◌, ◌≤◌, List, [], ◌∷◌, ◌++◌, length, refl, sym, ap, ap₂, ◌∙◌, subst, inl, arith, append-nil, append_assoc, length-append}
-use Rattle.cbor_head.specs.Prelude.{plain, Rules, Complaint, Complains, Spelling, spell, IsItem, IsSpelled, depth}
+use Rattle.cbor_head.specs.Prelude.{plain, Rules, Complaint, OfKey, Complains, Spelling, spell, IsItem, IsSpelled, depth}
 use Rattle.theory_values.proofs.{Agree.split_prefix, Agree.same_complaints, OneFirst.bounded, Verdicts.whole_longest}
 use Rattle.theory_verdicts.specs.Levels.{IsClean, IsTaken, Level, AreLevels, bytes_before}
 use Rattle.theory_verdicts.proofs.LevelFrames.{path, path_length, path_bytes, path_open}
@@ -12,7 +12,7 @@ complaint_along : (fs : List Frame) (s : Spelling) (r : Rules) (at to : ℕ) (c 
 complaint_along [] s r at to c e h = let f : to ≡ at = omega (arith, e) in subst (λ (n : ℕ). Complains r n s c) f h
 complaint_along (f ∷ fs) s r at to c e h =
     let next = at + length (before f) in
-    plug_item f (plug_all fs s) r at next c refl (inl (complaint_along fs s r next to c (omega (arith, e, length-append (before f) (before_all fs))) h))
+    plug_item f (plug_all fs s) r (OfKey r.keys) at next c refl (inl (complaint_along fs s r next to c (omega (arith, e, length-append (before f) (before_all fs))) h))
 
 -- An item in these containers begins with x, and the bytes up to x begin an item that was read. Then the first item has no
 -- complaint that ends within x.

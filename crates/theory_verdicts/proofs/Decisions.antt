@@ -4,7 +4,7 @@ use Rattle.std.proofs.lemmas.Bool.{cases_lt}
 use Rattle.cbor_head.specs.Prelude.{Bounds, Spelling, spell, IsItem, Rules, Complaint, complaint, OfKinds, Complains, IsComplaint, refusal, refused, IsFormError, IsFirstOf, HasNoneOf, IsVerdict, IsLongestBeginning}
 use Rattle.cbor_head.specs.{Laws.StartsWith, declared.reason.Reason.TheVariants.KeyKind, declared.reason.Refusal.Refusal}
 use Rattle.theory_values.proofs.Complaints.{complains_reported, first_for_each, kind_comes_first}
-use Rattle.theory_values.proofs.{Agree.split_prefix, Agree.same_complaints, KeyKinds.of_kind, KindsAgree.same_kinds}
+use Rattle.theory_values.proofs.{Agree.split_prefix, Agree.same_complaints, KeyKinds.of_kind, KeyKinds.same_kinds}
 use Rattle.theory_verdicts.specs.{Judged.IsJudged, Kinds.AsksForKinds, Kinds.KeepsToKinds}
 
 pub first_at_start : (r : Rules) (s : Spelling) (p : List ℕ) (c : Complaint) → IsFirstOf (Complains r 0 s) (0 + length p) c → IsFirstOf (Complains r 0 s) (length p) c

@@ -1,10 +1,10 @@
 -- What a container with an item in it is, by its parts.
 use Rattle.std.proofs.Common.{ℕ, suc, max, ◌+◌, ◌≡◌, ◌<◌, ◌⊎◌, List, [], ◌∷◌, ◌++◌, length, refl, sym, ap, ◌∙◌, arith, subst, inl, inr, length-append, append_assoc, append-nil}
-use Rattle.cbor_head.specs.Prelude.{head, Spelling, Spellings, SpelledEntries, no_spellings, a_spelling, no_entries, entry, spell, spell_all, spell_entries, spellings_count, entries_count, break_of, IsSpelled, AreSpelled, AreEntriesSpelled, HoldsOrIndefinite, depth, depth_all, depth_entries, Rules, Complaint, Complains, ComplainsIn, ComplainsInEntries}
+use Rattle.cbor_head.specs.Prelude.{head, Spelling, Spellings, SpelledEntries, no_spellings, a_spelling, no_entries, entry, spell, spell_all, spell_entries, spellings_count, entries_count, break_of, IsSpelled, AreSpelled, AreEntriesSpelled, HoldsOrIndefinite, depth, depth_all, depth_entries, Rules, Complaint, ComplainsBy, ComplainsInBy, ComplainsInEntriesBy}
 use Rattle.cbor_head.specs.declared.major.Major.TheVariants.{Array, Map, Tag}
 use Rattle.theory_values.proofs.Agree.{key_end, later_in, later_entries}
 use Rattle.theory_values.proofs.OneFirst.{after_head}
-use Rattle.theory_verdicts.specs.Frame.{Frame, a_member, a_key, a_content, tagged, with_all, with_entries, keys_onto, plug, before, behind, IsFrame, depth_beside, OfPrefix, OfKeyAt, OfBack}
+use Rattle.theory_verdicts.specs.Frame.{Frame, a_member, a_key, a_content, tagged, with_all, with_entries, keys_onto, plug, before, behind, IsFrame, depth_beside, OfPrefixBy, OfKeyAtBy, OfBackBy, OfKeyAt, OfBack}
 
 -- ---- members of two lists
 
@@ -42,32 +42,32 @@ depth_entries_with (entry k v es) fs = omega (arith, depth_entries_with es fs)
 
 -- ---- complaints of two lists
 
-pub members_split : (ss ts : Spellings) (r : Rules) (at to : ℕ) (c : Complaint) → to ≡ at + length (spell_all ss) → ComplainsIn r at (with_all ss ts) c → ComplainsIn r at ss c ⊎ ComplainsIn r to ts c
-members_split no_spellings ts r at to c e h = let f : at ≡ to = omega arith in inr (subst (λ (n : ℕ). ComplainsIn r n ts c) f h)
-members_split (a_spelling s ss) ts r at to c e (inl h) = inl (inl h)
-members_split (a_spelling s ss) ts r at to c e (inr h) =
-    elim (members_split ss ts r (at + length (spell s)) to c (omega (arith, e, length-append (spell s) (spell_all ss))) h) [ inl x ↦ inl (inr x) | inr y ↦ inr y ]
+pub members_split : (ss ts : Spellings) (r : Rules) (K : ℕ → List Spelling → Spelling → Complaint → Type 0) (at to : ℕ) (c : Complaint) → to ≡ at + length (spell_all ss) → ComplainsInBy r K at (with_all ss ts) c → ComplainsInBy r K at ss c ⊎ ComplainsInBy r K to ts c
+members_split no_spellings ts r K at to c e h = let f : at ≡ to = omega arith in inr (subst (λ (n : ℕ). ComplainsInBy r K n ts c) f h)
+members_split (a_spelling s ss) ts r K at to c e (inl h) = inl (inl h)
+members_split (a_spelling s ss) ts r K at to c e (inr h) =
+    elim (members_split ss ts r K (at + length (spell s)) to c (omega (arith, e, length-append (spell s) (spell_all ss))) h) [ inl x ↦ inl (inr x) | inr y ↦ inr y ]
 
-pub members_right : (ss ts : Spellings) (r : Rules) (at to : ℕ) (c : Complaint) → to ≡ at + length (spell_all ss) → ComplainsIn r to ts c → ComplainsIn r at (with_all ss ts) c
-members_right no_spellings ts r at to c e h = let f : to ≡ at = omega arith in subst (λ (n : ℕ). ComplainsIn r n ts c) f h
-members_right (a_spelling s ss) ts r at to c e h = inr (members_right ss ts r (at + length (spell s)) to c (omega (arith, e, length-append (spell s) (spell_all ss))) h)
+pub members_right : (ss ts : Spellings) (r : Rules) (K : ℕ → List Spelling → Spelling → Complaint → Type 0) (at to : ℕ) (c : Complaint) → to ≡ at + length (spell_all ss) → ComplainsInBy r K to ts c → ComplainsInBy r K at (with_all ss ts) c
+members_right no_spellings ts r K at to c e h = let f : to ≡ at = omega arith in subst (λ (n : ℕ). ComplainsInBy r K n ts c) f h
+members_right (a_spelling s ss) ts r K at to c e h = inr (members_right ss ts r K (at + length (spell s)) to c (omega (arith, e, length-append (spell s) (spell_all ss))) h)
 
 pub pair_size : (k v : Spelling) (es : SpelledEntries) → length (spell_entries (entry k v es)) ≡ length (spell k) + length (spell v) + length (spell_entries es)
 pair_size k v es = omega (arith, length-append (spell k ++ spell v) (spell_entries es), length-append (spell k) (spell v))
 
-pub entries_split : (es fs : SpelledEntries) (ks : List Spelling) (r : Rules) (at to : ℕ) (c : Complaint) → to ≡ at + length (spell_entries es) → ComplainsInEntries r at ks (with_entries es fs) c
-    → ComplainsInEntries r at ks es c ⊎ ComplainsInEntries r to (keys_onto ks es) fs c
-entries_split no_entries fs ks r at to c e h = let f : at ≡ to = omega arith in inr (subst (λ (n : ℕ). ComplainsInEntries r n ks fs c) f h)
-entries_split (entry k v es) fs ks r at to c e (inl h) = inl (inl h)
-entries_split (entry k v es) fs ks r at to c e (inr (inl h)) = inl (inr (inl h))
-entries_split (entry k v es) fs ks r at to c e (inr (inr (inl h))) = inl (inr (inr (inl h)))
-entries_split (entry k v es) fs ks r at to c e (inr (inr (inr h))) =
-    elim (entries_split es fs (k ∷ ks) r (at + length (spell k) + length (spell v)) to c (omega (arith, e, pair_size k v es)) h) [ inl x ↦ inl (inr (inr (inr x))) | inr y ↦ inr y ]
+pub entries_split : (es fs : SpelledEntries) (ks : List Spelling) (r : Rules) (K : ℕ → List Spelling → Spelling → Complaint → Type 0) (at to : ℕ) (c : Complaint) → to ≡ at + length (spell_entries es) → ComplainsInEntriesBy r K at ks (with_entries es fs) c
+    → ComplainsInEntriesBy r K at ks es c ⊎ ComplainsInEntriesBy r K to (keys_onto ks es) fs c
+entries_split no_entries fs ks r K at to c e h = let f : at ≡ to = omega arith in inr (subst (λ (n : ℕ). ComplainsInEntriesBy r K n ks fs c) f h)
+entries_split (entry k v es) fs ks r K at to c e (inl h) = inl (inl h)
+entries_split (entry k v es) fs ks r K at to c e (inr (inl h)) = inl (inr (inl h))
+entries_split (entry k v es) fs ks r K at to c e (inr (inr (inl h))) = inl (inr (inr (inl h)))
+entries_split (entry k v es) fs ks r K at to c e (inr (inr (inr h))) =
+    elim (entries_split es fs (k ∷ ks) r K (at + length (spell k) + length (spell v)) to c (omega (arith, e, pair_size k v es)) h) [ inl x ↦ inl (inr (inr (inr x))) | inr y ↦ inr y ]
 
-pub entries_right : (es fs : SpelledEntries) (ks : List Spelling) (r : Rules) (at to : ℕ) (c : Complaint) → to ≡ at + length (spell_entries es) → ComplainsInEntries r to (keys_onto ks es) fs c → ComplainsInEntries r at ks (with_entries es fs) c
-entries_right no_entries fs ks r at to c e h = let f : to ≡ at = omega arith in subst (λ (n : ℕ). ComplainsInEntries r n ks fs c) f h
-entries_right (entry k v es) fs ks r at to c e h =
-    inr (inr (inr (entries_right es fs (k ∷ ks) r (at + length (spell k) + length (spell v)) to c (omega (arith, e, pair_size k v es)) h)))
+pub entries_right : (es fs : SpelledEntries) (ks : List Spelling) (r : Rules) (K : ℕ → List Spelling → Spelling → Complaint → Type 0) (at to : ℕ) (c : Complaint) → to ≡ at + length (spell_entries es) → ComplainsInEntriesBy r K to (keys_onto ks es) fs c → ComplainsInEntriesBy r K at ks (with_entries es fs) c
+entries_right no_entries fs ks r K at to c e h = let f : to ≡ at = omega arith in subst (λ (n : ℕ). ComplainsInEntriesBy r K n ks fs c) f h
+entries_right (entry k v es) fs ks r K at to c e h =
+    inr (inr (inr (entries_right es fs (k ∷ ks) r K (at + length (spell k) + length (spell v)) to c (omega (arith, e, pair_size k v es)) h)))
 
 -- ---- bytes, validity and depth of what is plugged
 
@@ -106,59 +106,59 @@ depth_plug (tagged w n) s = omega arith
 -- ---- complaints of what is plugged
 
 -- a complaint of the container is about what comes before the item, the item, the item as a key, or what follows
-pub plug_split : (f : Frame) (s : Spelling) (r : Rules) (at to : ℕ) (c : Complaint) → to ≡ at + length (before f) → Complains r at (plug f s) c
-    → OfPrefix r at f c ⊎ Complains r to s c ⊎ OfKeyAt r to f s c ⊎ OfBack r (to + length (spell s)) f s c
-plug_split (a_member w a b) s r at to c e h =
+pub plug_split : (f : Frame) (s : Spelling) (r : Rules) (K : ℕ → List Spelling → Spelling → Complaint → Type 0) (at to : ℕ) (c : Complaint) → to ≡ at + length (before f) → ComplainsBy r K at (plug f s) c
+    → OfPrefixBy r K at f c ⊎ ComplainsBy r K to s c ⊎ OfKeyAtBy r K to f s c ⊎ OfBackBy r K (to + length (spell s)) f s c
+plug_split (a_member w a b) s r K at to c e h =
     let hd = head Array w (spellings_count a + suc (spellings_count b)) in
     let g = rw (count_with a (a_spelling s b)) at h in
     elim g [
       | inl x ↦ inl (inl x)
-      | inr y ↦ elim (members_split a (a_spelling s b) r (at + length hd) to c (omega (arith, e, length-append hd (spell_all a))) y) [ inl x ↦ inl (inr x) | inr (inl x) ↦ inr (inl x) | inr (inr x) ↦ inr (inr (inr x)) ]
+      | inr y ↦ elim (members_split a (a_spelling s b) r K (at + length hd) to c (omega (arith, e, length-append hd (spell_all a))) y) [ inl x ↦ inl (inr x) | inr (inl x) ↦ inr (inl x) | inr (inr x) ↦ inr (inr (inr x)) ]
     ]
-plug_split (a_key w a v b) s r at to c e h =
+plug_split (a_key w a v b) s r K at to c e h =
     let hd = head Map w (entries_count a + suc (entries_count b)) in
     let g = rw (entries_with a (entry s v b)) at h in
     elim g [
       | inl x ↦ inl (inl x)
-      | inr y ↦ elim (entries_split a (entry s v b) [] r (at + length hd) to c (omega (arith, e, length-append hd (spell_entries a))) y) [
+      | inr y ↦ elim (entries_split a (entry s v b) [] r K (at + length hd) to c (omega (arith, e, length-append hd (spell_entries a))) y) [
         | inl x ↦ inl (inr x)
         | inr (inl x) ↦ inr (inl x)
         | inr (inr (inl x)) ↦ inr (inr (inl x))
         | inr (inr (inr x)) ↦ inr (inr (inr x))
       ]
     ]
-plug_split (a_content w a k b) s r at to c e h =
+plug_split (a_content w a k b) s r K at to c e h =
     let hd = head Map w (entries_count a + suc (entries_count b)) in
     let there : at + length (hd ++ spell_entries a) + length (spell k) ≡ to = omega (arith, e, length-append (hd ++ spell_entries a) (spell k)) in
     let g = rw (entries_with a (entry k s b)) at h in
     elim g [
       | inl x ↦ inl (inl x)
-      | inr y ↦ elim (entries_split a (entry k s b) [] r (at + length hd) (at + length (hd ++ spell_entries a)) c (omega (arith, length-append hd (spell_entries a))) y) [
+      | inr y ↦ elim (entries_split a (entry k s b) [] r K (at + length hd) (at + length (hd ++ spell_entries a)) c (omega (arith, length-append hd (spell_entries a))) y) [
         | inl x ↦ inl (inr (inl x))
         | inr (inl x) ↦ inl (inr (inr (inl x)))
         | inr (inr (inl x)) ↦ inl (inr (inr (inr x)))
-        | inr (inr (inr (inl x))) ↦ inr (inl (subst (λ (m : ℕ). Complains r m s c) there x))
-        | inr (inr (inr (inr x))) ↦ inr (inr (inr (subst (λ (m : ℕ). ComplainsInEntries r (m + length (spell s)) (k ∷ keys_onto [] a) b c) there x)))
+        | inr (inr (inr (inl x))) ↦ inr (inl (subst (λ (m : ℕ). ComplainsBy r K m s c) there x))
+        | inr (inr (inr (inr x))) ↦ inr (inr (inr (subst (λ (m : ℕ). ComplainsInEntriesBy r K (m + length (spell s)) (k ∷ keys_onto [] a) b c) there x)))
       ]
     ]
-plug_split (tagged w n) s r at to c e (inl h) = inl h
-plug_split (tagged w n) s r at to c e (inr h) = inr (inl (subst (λ (m : ℕ). Complains r m s c) (sym e) h))
+plug_split (tagged w n) s r K at to c e (inl h) = inl h
+plug_split (tagged w n) s r K at to c e (inr h) = inr (inl (subst (λ (m : ℕ). ComplainsBy r K m s c) (sym e) h))
 
 -- and a complaint of the item is one of the container
-pub plug_item : (f : Frame) (s : Spelling) (r : Rules) (at to : ℕ) (c : Complaint) → to ≡ at + length (before f) → Complains r to s c ⊎ OfKeyAt r to f s c → Complains r at (plug f s) c
-plug_item (a_member w a b) s r at to c e (inl h) =
+pub plug_item : (f : Frame) (s : Spelling) (r : Rules) (K : ℕ → List Spelling → Spelling → Complaint → Type 0) (at to : ℕ) (c : Complaint) → to ≡ at + length (before f) → ComplainsBy r K to s c ⊎ OfKeyAtBy r K to f s c → ComplainsBy r K at (plug f s) c
+plug_item (a_member w a b) s r K at to c e (inl h) =
     let hd = head Array w (spellings_count a + suc (spellings_count b)) in
-    rw (count_with a (a_spelling s b)) (inr (members_right a (a_spelling s b) r (at + length hd) to c (omega (arith, e, length-append hd (spell_all a))) (inl h)))
-plug_item (a_key w a v b) s r at to c e h =
+    rw (count_with a (a_spelling s b)) (inr (members_right a (a_spelling s b) r K (at + length hd) to c (omega (arith, e, length-append hd (spell_all a))) (inl h)))
+plug_item (a_key w a v b) s r K at to c e h =
     let hd = head Map w (entries_count a + suc (entries_count b)) in
-    let g : ComplainsInEntries r to (keys_onto [] a) (entry s v b) c = elim h [ inl x ↦ inl x | inr x ↦ inr (inl x) ] in
-    rw (entries_with a (entry s v b)) (inr (entries_right a (entry s v b) [] r (at + length hd) to c (omega (arith, e, length-append hd (spell_entries a))) g))
-plug_item (a_content w a k b) s r at to c e (inl h) =
+    let g : ComplainsInEntriesBy r K to (keys_onto [] a) (entry s v b) c = elim h [ inl x ↦ inl x | inr x ↦ inr (inl x) ] in
+    rw (entries_with a (entry s v b)) (inr (entries_right a (entry s v b) [] r K (at + length hd) to c (omega (arith, e, length-append hd (spell_entries a))) g))
+plug_item (a_content w a k b) s r K at to c e (inl h) =
     let hd = head Map w (entries_count a + suc (entries_count b)) in
     let there : to ≡ at + length (hd ++ spell_entries a) + length (spell k) = omega (arith, e, length-append (hd ++ spell_entries a) (spell k)) in
-    rw (entries_with a (entry k s b)) (inr (entries_right a (entry k s b) [] r (at + length hd) (at + length (hd ++ spell_entries a)) c (omega (arith, length-append hd (spell_entries a))) (inr (inr (inl (subst (λ (m : ℕ). Complains r m s c) there h))))))
-plug_item (tagged w n) s r at to c e (inl h) = inr (subst (λ (m : ℕ). Complains r m s c) e h)
-plug_item _ s r at to c e (inr h) = absurd h
+    rw (entries_with a (entry k s b)) (inr (entries_right a (entry k s b) [] r K (at + length hd) (at + length (hd ++ spell_entries a)) c (omega (arith, length-append hd (spell_entries a))) (inr (inr (inl (subst (λ (m : ℕ). ComplainsBy r K m s c) there h))))))
+plug_item (tagged w n) s r K at to c e (inl h) = inr (subst (λ (m : ℕ). ComplainsBy r K m s c) e h)
+plug_item _ s r K at to c e (inr h) = absurd h
 
 -- what follows the item complains later
 pub back_later : (f : Frame) (s : Spelling) (r : Rules) (at : ℕ) (c : Complaint) → OfBack r at f s c → at < c.end

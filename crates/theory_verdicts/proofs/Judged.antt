@@ -1,7 +1,7 @@
 -- What is found in a part is found in the whole.
 use Rattle.std.proofs.Common.{ℕ, zero, suc, ◌+◌, ◌-◌, ◌≡◌, ◌<◌, ◌≤◌, ◌⊎◌, Option, Some, None, List, [], ◌++◌, length, refl, sym, ap, ◌∙◌, arith, inl, inr, length-append, append_assoc}
 use Rattle.std.proofs.lemmas.Bool.{cases_lt}
-use Rattle.cbor_head.specs.Prelude.{Spelling, Spellings, SpelledEntries, no_entries, entry, spell, spellings_count, entries_count, IsSpelled, AreEntriesSpelled, depth, depth_entries, IsItem, array, a_map, Rules, Complaint, Complains, rank}
+use Rattle.cbor_head.specs.Prelude.{Spelling, Spellings, SpelledEntries, no_entries, entry, spell, spellings_count, entries_count, IsSpelled, AreEntriesSpelled, depth, depth_entries, IsItem, array, a_map, Rules, Complaint, OfKey, Complains, rank}
 use Rattle.cbor_head.specs.declared.width.Width.{Width}
 use Rattle.theory_values.proofs.Agree.{head_of, body, parts, later}
 use Rattle.theory_values.proofs.OneFirst.{bounded, key_last}
@@ -35,9 +35,9 @@ module _ (f : Frame) (r : Rules) (at d : ℕ) (fits : IsFrame f) (flat : depth_b
       let size : length (spell s) ≡ length p + length rest = ap length e ∙ length-append p rest in
       let least : c.end + (rank c.reason - 1) ≤ to + length (spell s) = bounded s r to c h.holds in
       record {
-        holds = plug_item f s r at to c refl (inl h.holds);
+        holds = plug_item f s r (OfKey r.keys) at to c refl (inl h.holds);
         ends = omega (arith, h.ends, more);
-        first = λ x g l. elim (plug_split f s r at to x refl g) [
+        first = λ x g l. elim (plug_split f s r (OfKey r.keys) at to x refl g) [
           | inl y ↦ absurd (clean x y)
           | inr (inl y) ↦ h.first x y (omega (arith, l, more))
           | inr (inr (inl y)) ↦ ahead c.end x.end (rank c.reason) (rank x.reason) (omega (arith, least, key_at_end f s r to x y)) (key_ranked f to r s x y)
@@ -51,7 +51,7 @@ module _ (f : Frame) (r : Rules) (at d : ℕ) (fits : IsFrame f) (flat : depth_b
       let whole = ap length (spell_plug f s) ∙ length-append (before f) (spell s ++ behind f) in
       let short : to + length p < to + length (spell s) = h.0 in (
         omega (arith, short, more, whole, length-append (spell s) (behind f)),
-        λ x g. elim (plug_split f s r at to x refl g) [
+        λ x g. elim (plug_split f s r (OfKey r.keys) at to x refl g) [
           | inl y ↦ absurd (clean x y)
           | inr (inl y) ↦ omega (arith, h.1 x y, more)
           | inr (inr (inl y)) ↦ omega (arith, key_at_end f s r to x y, short, more)
@@ -83,9 +83,9 @@ module _ (f : Frame) (r : Rules) (at d : ℕ) (fits : IsFrame f) (flat : depth_b
         rest = behind f;
         is = record { spelled = spelled_plug f k fits h; within = omega (arith, deep, small, flat); bytes_are = spell_plug f k ∙ sym (append_assoc (before f) (spell k) (behind f)) };
         finding = record {
-          holds = plug_item f k r at to c refl (inr o);
+          holds = plug_item f k r (OfKey r.keys) at to c refl (inr o);
           ends = omega (arith, end, more);
-          first = λ x g l. elim (plug_split f k r at to x refl g) [
+          first = λ x g l. elim (plug_split f k r (OfKey r.keys) at to x refl g) [
             | inl y ↦ absurd (clean x y)
             | inr (inl y) ↦ absurd (none x y)
             | inr (inr (inl y)) ↦ inr (omega (arith, end, key_at_end f k r to x y), key_ranks f to k c x o y)

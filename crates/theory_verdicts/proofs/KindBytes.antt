@@ -5,7 +5,8 @@ use Rattle.cbor_head.specs.declared.width.Width.TheVariants.{Direct, One, Two, F
 use Rattle.cbor_head.specs.declared.{major.Major.Major, major.Major.TheVariants.Bytes, major.Major.TheVariants.Text, width.Width.Width}
 use Rattle.theory_values.proofs.KeyKinds.{number_is, byte_basic, of_kind, first_of_head}
 use Rattle.theory_values.proofs.Parts.{major, width, count, head_of, body, parts, holds_of}
-use Rattle.theory_values.{specs.FirstBytes.is_basic, specs.FirstBytes.is_container, proofs.ReadLaws.length_head, proofs.ByteLists.bytes_back}
+use Rattle.theory_values.{proofs.Reasons.none_by_form, specs.FirstBytes.is_basic, specs.FirstBytes.is_container, proofs.ReadLaws.length_head}
+use Rattle.theory_values.proofs.ByteLists.{bytes_back}
 use Rattle.theory_automaton.specs.Trace.{Mark, a_head, a_chunk, a_byte, a_break}
 use Rattle.theory_automaton.specs.Automaton as automaton
 use Rattle.theory_automaton.specs.Automaton.{State, at_item as expected_at, in_head, in_simple, run, reached, Next, refuses, goes, reports, take_byte}
@@ -53,7 +54,7 @@ kinds_behind s h [] z e one at c o = omega (arith, (of_kind s at c o).later)
 kinds_behind (array w ss) h (b ∷ bs) z e one at c o = omega (arith, within_first (array w ss) h b bs z e refl one, (of_kind (array w ss) at c o).later)
 kinds_behind (a_map w es) h (b ∷ bs) z e one at c o = omega (arith, within_first (a_map w es) h b bs z e refl one, (of_kind (a_map w es) at c o).later)
 kinds_behind (tag w n s) h (b ∷ bs) z e one at c o = omega (arith, within_first (tag w n s) h b bs z e refl one, (of_kind (tag w n s) at c o).later)
-kinds_behind _ h (b ∷ bs) z e one at c o = absurd o
+kinds_behind s h (b ∷ bs) z e one at c o = absurd (none_by_form at s c o)
 
 -- a prefix of them
 pub one_head_prefix : (x y : List ℕ) → IsOfOneHead (x ++ y) → IsOfOneHead x

@@ -1,98 +1,63 @@
 -- Complaints on the kinds of keys over the open containers: where those of the whole end, and which are the item's.
 use Rattle.std.proofs.Common.{ℕ, suc, ◌+◌, ◌≡◌, ◌<◌, ◌≤◌, ◌⊎◌, ◌↔◌, List, [], ◌∷◌, ◌++◌, length, refl, sym, ap, ◌∙◌, arith, subst, inl, inr, length-append, append_assoc, append-nil, Option}
-use Rattle.cbor_head.specs.Prelude.{head, IsIntegerOrText, Spelling, Spellings, SpelledEntries, no_spellings, a_spelling, no_entries, entry, spell, spell_all, spell_entries, spellings_count, entries_count, IsSpelled, depth, value_of, IsItem, Complaint, complaint, OfKinds, OfKindsIn, OfKindsInEntries, Rules, Bounds, IsBeginning}
+use Rattle.cbor_head.specs.Prelude.{head, IsIntegerOrText, Spelling, spell, spell_all, spell_entries, spellings_count, entries_count, IsSpelled, depth, value_of, IsItem, Complaint, complaint, form, OfKind, OfKinds, Rules, Bounds, IsBeginning}
 use Rattle.cbor_head.specs.declared.major.Major.TheVariants.{Array, Map, Tag}
 use Rattle.cbor_head.specs.{declared.reason.Reason.TheVariants.KeyKind, Laws.StartsWith, declared.reason.Refusal.Refusal}
-use Rattle.theory_values.proofs.KeyKinds.{kind_end, of_kind, of_kind_in, of_kind_entries}
-use Rattle.theory_values.proofs.{ReadLaws.length_head, ReadLaws.length_spell, KindsAgree.same_kinds}
-use Rattle.theory_verdicts.specs.Frame.{Frame, a_member, a_key, a_content, tagged, with_all, with_entries, plug, before, behind}
+use Rattle.theory_values.proofs.KeyKinds.{kind_end, form_count, of_kind, of_kind_in, of_kind_entries}
+use Rattle.theory_values.proofs.KeyKinds.{same_kinds}
+use Rattle.theory_values.proofs.ReadLaws.{length_head, length_spell}
+use Rattle.theory_verdicts.specs.Frame.{Frame, a_member, a_key, a_content, tagged, plug, before, behind, OfPrefixBy, OfKeyAtBy, OfBackBy}
 use Rattle.theory_verdicts.specs.Kinds.{IsKeyFrame, IsKeyExpected, plug_all, AsksForKinds, KeepsToKinds}
-use Rattle.theory_verdicts.proofs.Frames.{count_with, entries_with, pair_size, spell_plug, spelled_plug, depth_plug}
+use Rattle.theory_verdicts.proofs.Frames.{spell_plug, spelled_plug, depth_plug, plug_split, plug_item}
 use Rattle.theory_verdicts.specs.Reading.{IsMemory, IsReached, IsUndecided, HasCause}
 use Rattle.theory_verdicts.specs.OpenMaps.{before_all, ArePath}
-
--- ---- of two lists
-
-in_split : (ss ts : Spellings) (at to : ℕ) (c : Complaint) → to ≡ at + length (spell_all ss) → OfKindsIn at (with_all ss ts) c → OfKindsIn at ss c ⊎ OfKindsIn to ts c
-in_split no_spellings ts at to c e h = let f : at ≡ to = omega (arith, e) in inr (subst (λ (n : ℕ). OfKindsIn n ts c) f h)
-in_split (a_spelling s ss) ts at to c e (inl h) = inl (inl h)
-in_split (a_spelling s ss) ts at to c e (inr h) =
-    elim (in_split ss ts (at + length (spell s)) to c (omega (arith, e, length-append (spell s) (spell_all ss))) h) [ inl x ↦ inl (inr x) | inr y ↦ inr y ]
-
-in_right : (ss ts : Spellings) (at to : ℕ) (c : Complaint) → to ≡ at + length (spell_all ss) → OfKindsIn to ts c → OfKindsIn at (with_all ss ts) c
-in_right no_spellings ts at to c e h = let f : to ≡ at = omega (arith, e) in subst (λ (n : ℕ). OfKindsIn n ts c) f h
-in_right (a_spelling s ss) ts at to c e h = inr (in_right ss ts (at + length (spell s)) to c (omega (arith, e, length-append (spell s) (spell_all ss))) h)
-
-entries_split : (es fs : SpelledEntries) (at to : ℕ) (c : Complaint) → to ≡ at + length (spell_entries es) → OfKindsInEntries at (with_entries es fs) c → OfKindsInEntries at es c ⊎ OfKindsInEntries to fs c
-entries_split no_entries fs at to c e h = let f : at ≡ to = omega (arith, e) in inr (subst (λ (n : ℕ). OfKindsInEntries n fs c) f h)
-entries_split (entry k v es) fs at to c e (inl h) = inl (inl h)
-entries_split (entry k v es) fs at to c e (inr (inl h)) = inl (inr (inl h))
-entries_split (entry k v es) fs at to c e (inr (inr (inl h))) = inl (inr (inr (inl h)))
-entries_split (entry k v es) fs at to c e (inr (inr (inr h))) =
-    elim (entries_split es fs (at + length (spell k) + length (spell v)) to c (omega (arith, e, pair_size k v es)) h) [ inl x ↦ inl (inr (inr (inr x))) | inr y ↦ inr y ]
-
-entries_right : (es fs : SpelledEntries) (at to : ℕ) (c : Complaint) → to ≡ at + length (spell_entries es) → OfKindsInEntries to fs c → OfKindsInEntries at (with_entries es fs) c
-entries_right no_entries fs at to c e h = let f : to ≡ at = omega (arith, e) in subst (λ (n : ℕ). OfKindsInEntries n fs c) f h
-entries_right (entry k v es) fs at to c e h = inr (inr (inr (entries_right es fs (at + length (spell k) + length (spell v)) to c (omega (arith, e, pair_size k v es)) h)))
 
 -- ---- of one container
 
 -- about the item as a key, which begins at this offset
 abbrev pub IsOnKey : ℕ → Spelling → Complaint → Type 0
-IsOnKey at s c = ¬ IsIntegerOrText (value_of s) × (c ≡ complaint (at + 1) at KeyKind)
+IsOnKey at s c = OfKind at [] s c
+
+kind_before : (f : Frame) (at : ℕ) (c : Complaint) → OfPrefixBy form OfKind at f c → c.end ≤ at + length (before f)
+kind_before (a_member w a b) at c (inl h) = absurd (form_count at Array w _ c h)
+kind_before (a_member w a b) at c (inr h) = omega (arith, (of_kind_in a _ c h).within, length-append (head Array w (spellings_count a + suc (spellings_count b))) (spell_all a))
+kind_before (a_key w a v b) at c (inl h) = absurd (form_count at Map w _ c h)
+kind_before (a_key w a v b) at c (inr h) = omega (arith, (of_kind_entries a [] _ c h).within, length-append (head Map w (entries_count a + suc (entries_count b))) (spell_entries a))
+kind_before (a_content w a k b) at c h =
+    let hd = head Map w (entries_count a + suc (entries_count b)) in
+    let size = length-append (hd ++ spell_entries a) (spell k) in
+    elim h [
+      | inl x ↦ absurd (form_count at Map w _ c x)
+      | inr (inl x) ↦ omega (arith, (of_kind_entries a [] _ c x).within, length-append hd (spell_entries a), size)
+      | inr (inr (inl x)) ↦ omega (arith, (of_kind k _ c x).within, size)
+      | inr (inr (inr x)) ↦ omega (arith, kind_end c (at + length (hd ++ spell_entries a)) x.1, size, length_spell k)
+    ]
+kind_before (tagged w n) at c h = absurd (cc h.0)
+
+kind_behind : (f : Frame) (s : Spelling) (at : ℕ) (c : Complaint) → OfBackBy form OfKind at f s c → at < c.end
+kind_behind (a_member w a b) s at c h = (of_kind_in b at c h).later
+kind_behind (a_key w a v b) s at c (inl h) = omega (arith, (of_kind v at c h).later)
+kind_behind (a_key w a v b) s at c (inr h) = omega (arith, (of_kind_entries b _ _ c h).later)
+kind_behind (a_content w a k b) s at c h = (of_kind_entries b _ at c h).later
+kind_behind (tagged w n) s at c h = absurd h
 
 -- a complaint of the container ends with what comes before the item, is about it as a key, is its own, or ends after it
 kind_split : (f : Frame) (s : Spelling) (at to : ℕ) (c : Complaint) → to ≡ at + length (before f) → OfKinds at (plug f s) c → (c.end ≤ to) ⊎ (IsKeyFrame f × IsOnKey to s c) ⊎ OfKinds to s c ⊎ (to + length (spell s) < c.end)
-kind_split (a_member w a b) s at to c e h =
-    let hd = head Array w (spellings_count a + suc (spellings_count b)) in
-    let size = length-append hd (spell_all a) in
-    let g = rw (count_with a (a_spelling s b), OfKinds) at h in
-    elim (in_split a (a_spelling s b) (at + length hd) to c (omega (arith, e, size)) g) [
-      | inl x ↦ inl (omega (arith, (of_kind_in a (at + length hd) c x).within, e, size))
-      | inr (inl x) ↦ inr (inr (inl x))
-      | inr (inr x) ↦ inr (inr (inr ((of_kind_in b (to + length (spell s)) c x).later)))
-    ]
-kind_split (a_key w a v b) s at to c e h =
-    let hd = head Map w (entries_count a + suc (entries_count b)) in
-    let size = length-append hd (spell_entries a) in
-    let g = rw (entries_with a (entry s v b), OfKinds) at h in
-    elim (entries_split a (entry s v b) (at + length hd) to c (omega (arith, e, size)) g) [
-      | inl x ↦ inl (omega (arith, (of_kind_entries a (at + length hd) c x).within, e, size))
-      | inr (inl x) ↦ inr (inl (tt, x))
-      | inr (inr (inl x)) ↦ inr (inr (inl x))
-      | inr (inr (inr (inl x))) ↦ inr (inr (inr (omega (arith, (of_kind v (to + length (spell s)) c x).later))))
-      | inr (inr (inr (inr x))) ↦ inr (inr (inr (omega (arith, (of_kind_entries b (to + length (spell s) + length (spell v)) c x).later))))
-    ]
-kind_split (a_content w a k b) s at to c e h =
-    let hd = head Map w (entries_count a + suc (entries_count b)) in
-    let here = at + length (hd ++ spell_entries a) in
-    let size = length-append hd (spell_entries a) in
-    let there : here + length (spell k) ≡ to = omega (arith, e, length-append (hd ++ spell_entries a) (spell k)) in
-    let g = rw (entries_with a (entry k s b), OfKinds) at h in
-    elim (entries_split a (entry k s b) (at + length hd) here c (omega (arith, size)) g) [
-      | inl x ↦ inl (omega (arith, (of_kind_entries a (at + length hd) c x).within, there, size))
-      | inr (inl x) ↦ inl (omega (arith, kind_end c here x.1, there, length_spell k))
-      | inr (inr (inl x)) ↦ inl (omega (arith, (of_kind k here c x).within, there))
-      | inr (inr (inr (inl x))) ↦ inr (inr (inl (subst (λ (m : ℕ). OfKinds m s c) there x)))
-      | inr (inr (inr (inr x))) ↦ inr (inr (inr (omega (arith, (of_kind_entries b (here + length (spell k) + length (spell s)) c x).later, there))))
-    ]
-kind_split (tagged w n) s at to c e h = inr (inr (inl (subst (λ (m : ℕ). OfKinds m s c) (sym e) h)))
+kind_split f s at to c e h = elim (plug_split f s form OfKind at to c e h) [
+  | inl x ↦ inl (omega (arith, kind_before f at c x, e))
+  | inr (inl x) ↦ inr (inr (inl x))
+  | inr (inr (inl x)) ↦ inr (inl (on_key f x))
+  | inr (inr (inr x)) ↦ inr (inr (inr (kind_behind f s (to + length (spell s)) c x)))
+]
+  where
+    on_key : (f : Frame) → OfKeyAtBy form OfKind to f s c → IsKeyFrame f × IsOnKey to s c
+    on_key (a_key w a v b) x = (tt, x)
+    on_key _ x = absurd x
 
--- and those of the item, and on it as a key, are of the container
-kind_plug : (f : Frame) (s : Spelling) (at to : ℕ) (c : Complaint) → to ≡ at + length (before f) → (IsKeyFrame f × IsOnKey to s c) ⊎ OfKinds to s c → OfKinds at (plug f s) c
-kind_plug (a_member w a b) s at to c e (inr h) =
-    let hd = head Array w (spellings_count a + suc (spellings_count b)) in
-    rw (count_with a (a_spelling s b), OfKinds) (in_right a (a_spelling s b) (at + length hd) to c (omega (arith, e, length-append hd (spell_all a))) (inl h))
-kind_plug (a_key w a v b) s at to c e h =
-    let hd = head Map w (entries_count a + suc (entries_count b)) in
-    let g : OfKindsInEntries to (entry s v b) c = elim h [ inl x ↦ inl x.1 | inr x ↦ inr (inl x) ] in
-    rw (entries_with a (entry s v b), OfKinds) (entries_right a (entry s v b) (at + length hd) to c (omega (arith, e, length-append hd (spell_entries a))) g)
-kind_plug (a_content w a k b) s at to c e (inr h) =
-    let hd = head Map w (entries_count a + suc (entries_count b)) in
-    let there : to ≡ at + length (hd ++ spell_entries a) + length (spell k) = omega (arith, e, length-append (hd ++ spell_entries a) (spell k)) in
-    rw (entries_with a (entry k s b), OfKinds) (entries_right a (entry k s b) (at + length hd) (at + length (hd ++ spell_entries a)) c (omega (arith, length-append hd (spell_entries a))) (inr (inr (inl (subst (λ (m : ℕ). OfKinds m s c) there h)))))
-kind_plug (tagged w n) s at to c e (inr h) = subst (λ (m : ℕ). OfKinds m s c) e h
-kind_plug _ s at to c e (inl h) = absurd h.0
+-- and one about it as a key is of the container
+kind_on_key : (f : Frame) (s : Spelling) (at to : ℕ) (c : Complaint) → to ≡ at + length (before f) → IsKeyFrame f → IsOnKey to s c → OfKinds at (plug f s) c
+kind_on_key (a_key w a v b) s at to c e k h = plug_item (a_key w a v b) s form OfKind at to c e (inr h)
+kind_on_key _ s at to c e k h = absurd k
 
 -- ---- of all containers
 
@@ -141,10 +106,10 @@ kind_along (f ∷ g ∷ fs) s at to c e h =
 -- and a complaint about the item as a key is one of the whole
 pub key_along : (fs : List Frame) (s : Spelling) (at to : ℕ) (c : Complaint) → to ≡ at + length (before_all fs) → IsKeyExpected fs → IsOnKey to s c → OfKinds at (plug_all fs s) c
 key_along [] s at to c e expected h = absurd expected
-key_along (f ∷ []) s at to c e expected h = kind_plug f s at to c (omega (arith, e, length-append (before f) [])) (inl (expected, h))
+key_along (f ∷ []) s at to c e expected h = kind_on_key f s at to c (omega (arith, e, length-append (before f) [])) expected h
 key_along (f ∷ g ∷ fs) s at to c e expected h =
     let next = at + length (before f) in
-    kind_plug f (plug_all (g ∷ fs) s) at next c refl (inr (key_along (g ∷ fs) s next to c (omega (arith, e, length-append (before f) (before_all (g ∷ fs)))) expected h))
+    plug_item f (plug_all (g ∷ fs) s) form OfKind at next c refl (inl (key_along (g ∷ fs) s next to c (omega (arith, e, length-append (before f) (before_all (g ∷ fs)))) expected h))
 
 -- ---- the innermost is the last
 

@@ -1,36 +1,54 @@
 -- The open containers with what is complete in them, as frames around the item that is expected.
-use Rattle.std.proofs.Common.{◌≡◌, ℕ, suc, ◌+◌, ◌-◌, ◌≤◌, List, [], ◌∷◌, ◌++◌, length, refl, sym, ap, ◌∙◌, subst, inl, inr, arith, ◌↔◌, length-append, append_assoc}
-use Rattle.cbor_head.specs.Prelude.{IsBeginning, HoldsOrIndefinite, head, Spelling, Spellings, SpelledEntries, no_spellings, no_entries, entry, spell, spell_all, spell_entries, spellings_count, entries_count, IsSpelled, depth, plain}
+use Rattle.std.proofs.Common.{◌≡◌, ℕ, suc, ◌+◌, ◌-◌, ◌≤◌, List, [], ◌∷◌, ◌++◌, length, refl, sym, ap, ap₂, ◌∙◌, subst, inl, inr, arith, ◌↔◌, append_assoc}
+use Rattle.cbor_head.specs.Prelude.{IsBeginning, HoldsOrIndefinite, Spelling, Spellings, SpelledEntries, no_entries, entry, spell, spellings_count, entries_count, IsSpelled, depth, plain}
 use Rattle.cbor_head.specs.declared.major.Major.TheVariants as majors
 use Rattle.cbor_head.specs.declared.width.Width.{Width, TheVariants.Indefinite}
 use Rattle.theory_automaton.proofs.Beginnings.{shorter}
 use Rattle.theory_verdicts.specs.Frame as frames
-use Rattle.theory_verdicts.specs.Frame.{Frame, before, IsFrame, depth_beside}
+use Rattle.theory_verdicts.specs.Frame.{Frame, IsFrame, depth_beside}
 use Rattle.theory_verdicts.specs.OpenMaps.{OfClosed, ComplainsWithin, before_all, AreOpen, ArePath}
 use Rattle.theory_verdicts.proofs.Judged.{zero_item, zero_spelled, zeros, zeros_count, zeros_spelled, zeros_flat, zero_pairs, pairs_count, pairs_spelled, pairs_flat}
-use Rattle.theory_verdicts.proofs.OpenSteps.{before_snoc, none_open, opens as one_opens}
+use Rattle.theory_verdicts.proofs.OpenSteps.{none_open, opens as one_opens}
 use Rattle.theory_verdicts.specs.Levels.{IsTaken, AreTaken, ArePairsTaken, Level, a_member, a_key, a_value, some_member, some_key, some_value, tagged, level_bytes, IsLevel, AreLevels, bytes_before}
 use Rattle.theory_verdicts.proofs.Levels.{no-count, spelled-all, within-all, clean-all, pairs-spelled, pairs-within}
-use Rattle.theory_verdicts.specs.Kinds.{plug_all, IsKeyFrame, IsKeyExpected, IsKeyLevel, IsKeyExpectedIn}
-use Rattle.theory_verdicts.proofs.KindFrames.{expected_last, IsAround, spell_along, item_along}
+use Rattle.theory_verdicts.specs.Kinds.{plug_all, IsKeyExpected, IsKeyExpectedIn}
+use Rattle.theory_verdicts.proofs.KindFrames.{IsAround, spell_along, item_along}
+use Rattle.theory_verdicts.specs.Path as walk
+use Rattle.theory_verdicts.proofs.PathLevels.{frame_of as path_frame}
+use Rattle.theory_verdicts.proofs.PathKinds.{frames as all_frames, frames_length, frames_bytes, expected_in as key_expected}
 use Rattle.theory_verdicts.{specs.Judged.Never, proofs.Heads.open_or}
+
+-- ---- the same containers as a path for any rules
+
+abbrev pub path_of : Level → walk.Level
+path_of (a_member w left done) = walk.a_member w left done
+path_of (a_key w left done) = walk.a_key w left done
+path_of (a_value w left done k) = walk.a_value w left done k
+path_of (some_member done) = walk.a_member Indefinite 0 done
+path_of (some_key done) = walk.a_key Indefinite 0 done
+path_of (some_value done k) = walk.a_value Indefinite 0 done k
+path_of (tagged w n) = walk.tagged w n
+
+abbrev pub paths_of : List Level → List walk.Level
+paths_of [] = []
+paths_of (l ∷ ls) = path_of l ∷ paths_of ls
+
+pub paths_length : (ls : List Level) → length (paths_of ls) ≡ length ls
+paths_length [] = refl
+paths_length (l ∷ ls) = ap suc (paths_length ls)
+
+same_bytes : (l : Level) → walk.level_bytes (path_of l) ≡ level_bytes l
+same_bytes (a_member w left done) = refl
+same_bytes _ = refl
+
+pub paths_bytes : (ls : List Level) → walk.bytes_before (paths_of ls) ≡ bytes_before ls
+paths_bytes [] = refl
+paths_bytes (l ∷ ls) = ap₂ (λ (x y : List ℕ). x ++ y) (paths_bytes ls) (same_bytes l)
 
 -- ---- one container
 
-abbrev pub frame_of : Level → Frame
-frame_of (a_member w left done) = frames.a_member w done (zeros left)
-frame_of (a_key w left done) = frames.a_key w done zero_item (zero_pairs left)
-frame_of (a_value w left done k) = frames.a_content w done k (zero_pairs left)
-frame_of (some_member done) = frames.a_member Indefinite done no_spellings
-frame_of (some_key done) = frames.a_key Indefinite done zero_item no_entries
-frame_of (some_value done k) = frames.a_content Indefinite done k no_entries
-frame_of (tagged w n) = frames.tagged w n
-
-pub frame_bytes : (l : Level) → before (frame_of l) ≡ level_bytes l
-frame_bytes (a_member w left done) = ap (λ (n : ℕ). head majors.Array w (spellings_count done + suc n) ++ spell_all done) (zeros_count left)
-frame_bytes (a_key w left done) = ap (λ (n : ℕ). head majors.Map w (entries_count done + suc n) ++ spell_entries done) (pairs_count left)
-frame_bytes (a_value w left done k) = ap (λ (n : ℕ). (head majors.Map w (entries_count done + suc n) ++ spell_entries done) ++ spell k) (pairs_count left)
-frame_bytes _ = refl
+abbrev frame_of : Level → Frame
+frame_of l = path_frame (path_of l)
 
 -- each complete pair has no complaint within
 quiet : (d : ℕ) (es : SpelledEntries) (at : ℕ) → ArePairsTaken d es → Never (ComplainsWithin plain at es)
@@ -78,21 +96,18 @@ fitting d (tagged w n) h = record { fits = h; flat = omega arith; clean = λ at 
 -- ---- all of them, the outermost first
 
 unfoldable pub path : List Level → List Frame
-path [] = []
-path (l ∷ ls) = path ls ++ frame_of l ∷ []
+path ls = all_frames (paths_of ls)
 
 pub path_length : (ls : List Level) → length (path ls) ≡ length ls
 unfolding path
-path_length [] = refl
-path_length (l ∷ ls) = omega (arith, path_length ls, length-append (path ls) (frame_of l ∷ []))
+path_length ls = frames_length (paths_of ls) ∙ paths_length ls
 
 pub path_bytes : (ls : List Level) → before_all (path ls) ≡ bytes_before ls
 unfolding path
-path_bytes [] = refl
-path_bytes (l ∷ ls) = before_snoc (path ls) (frame_of l) ∙ ap (λ (x : List ℕ). x ++ before (frame_of l)) (path_bytes ls) ∙ ap (λ (x : List ℕ). bytes_before ls ++ x) (frame_bytes l)
+path_bytes ls = frames_bytes (paths_of ls) ∙ paths_bytes ls
 
 pub path_open : (d : ℕ) (ls : List Level) → AreLevels d ls → AreOpen plain d (path ls)
-unfolding path
+unfolding path all_frames
 path_open d [] h = none_open plain d
 path_open d (l ∷ ls) h =
     let i = fitting (d - suc (length ls)) l h.1 in
@@ -100,16 +115,14 @@ path_open d (l ∷ ls) h =
 
 -- ---- the containers around the item that is expected, where it is known what is complete in them
 
-key_level : (l : Level) → IsKeyFrame (frame_of l) ↔ IsKeyLevel l
-key_level (tagged w n) = (λ h. h, λ h. h)
-key_level _ = (λ h. h, λ h. h)
+same_expected : (ls : List Level) → walk.IsKeyExpectedIn (paths_of ls) ↔ IsKeyExpectedIn ls
+same_expected [] = (λ h. h, λ h. h)
+same_expected (tagged w n ∷ ls) = (λ h. h, λ h. h)
+same_expected (_ ∷ ls) = (λ h. h, λ h. h)
 
 expected_in : (ls : List Level) → IsKeyExpected (path ls) ↔ IsKeyExpectedIn ls
 unfolding path
-expected_in [] = (λ h. h, λ h. h)
-expected_in (l ∷ ls) =
-    let last = expected_last (path ls) (frame_of l) in
-    (λ h. (key_level l).0 (last.0 h), λ h. last.1 ((key_level l).1 h))
+expected_in ls = let there = key_expected (paths_of ls) in let back = same_expected ls in (λ h. back.0 (there.0 h), λ h. there.1 (back.1 h))
 
 pub around_levels : (d : ℕ) (ls : List Level) → AreLevels d ls → IsAround d (d - length ls) (path ls) (bytes_before ls) (IsKeyExpectedIn ls)
 around_levels d ls levels =

@@ -1,8 +1,9 @@
 -- What is complete in the open containers, and grows by an item.
 use Rattle.std.proofs.Common.{◌≡◌, ℕ, suc, ◌+◌, ◌≤◌, ◌⊎◌, List, [], ◌∷◌, ◌++◌, length, refl, sym, ◌∙◌, subst, inl, inr, arith, length-append}
-use Rattle.cbor_head.specs.Prelude.{Holds, head, Value, HasEntry, HasDistinctKeys, Same, Chunk, Spelling, Spellings, SpelledEntries, text, byte_chunks, text_chunks, array, a_map, tag, simple, no_spellings, a_spelling, no_entries, entry, spell, spell_all, spell_entries, spellings_count, entries_count, chunk_bytes, break_of, AreSpelled, AreEntriesSpelled, depth_all, depth_entries, value_of, entries_of, plain, Complaint, OfChunks, Complains, ComplainsIn, ComplainsInEntries, IsRepeated}
+use Rattle.cbor_head.specs.Prelude.{Holds, head, Value, HasEntry, HasDistinctKeys, Same, Chunk, Spelling, Spellings, SpelledEntries, text, byte_chunks, text_chunks, array, a_map, tag, simple, no_spellings, a_spelling, no_entries, entry, spell, spell_all, spell_entries, spellings_count, entries_count, chunk_bytes, break_of, AreSpelled, AreEntriesSpelled, depth_all, depth_entries, value_of, entries_of, plain, Complaint, OfChunks, Complains, IsRepeated}
 use Rattle.cbor_head.specs.declared.major.Major.TheVariants as majors
 use Rattle.cbor_head.specs.declared.{major.Major.Major, width.Width.Width}
+use Rattle.theory_values.specs.MemberComplaints.{ComplainsIn, ComplainsInEntries}
 use Rattle.theory_verdicts.specs.Levels.{IsClean, IsTaken, AreTaken, ArePairsTaken, IsOpened, Level, a_member, a_key, some_member, some_key, tagged}
 use Rattle.theory_verdicts.proofs.Loops.{array_bytes-more, array_bytes-whole, map_bytes-more, map_bytes-whole}
 use Rattle.theory_verdicts.{specs.Frame.with_all, specs.Frame.with_entries, proofs.Members.closes, proofs.Frames.count_with, proofs.Frames.entries_with}

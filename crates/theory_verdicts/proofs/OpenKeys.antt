@@ -1,7 +1,8 @@
 -- Complaints on the completed keys of a map, apart from those within its pairs.
 use Rattle.std.proofs.Common.{ℕ, suc, ◌+◌, ◌≡◌, ◌⊎◌, List, [], ◌∷◌, ◌++◌, length, refl, sym, subst, inl, inr}
-use Rattle.cbor_head.specs.Prelude.{head, Spelling, SpelledEntries, no_entries, entry, spell, spell_entries, entries_count, Rules, Complaint, OfKey, ComplainsInEntries}
+use Rattle.cbor_head.specs.Prelude.{head, Spelling, SpelledEntries, no_entries, entry, spell, spell_entries, entries_count, Rules, Complaint, OfKey}
 use Rattle.cbor_head.specs.declared.major.Major.TheVariants.{Map}
+use Rattle.theory_values.specs.MemberComplaints.{ComplainsInEntries}
 use Rattle.theory_verdicts.specs.Frame.{Frame, a_member, a_key, a_content, tagged, keys_onto, OfPrefix}
 use Rattle.theory_verdicts.specs.OpenMaps.{Placed, placed, keys_at, open_keys, onto, OnKeys, ComplainsWithin, OfClosed}
 

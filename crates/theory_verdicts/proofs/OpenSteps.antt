@@ -1,6 +1,6 @@
 -- How the open containers change as members, keys and values end, and what stays known of them.
 use Rattle.std.proofs.Common.{ℕ, suc, ◌+◌, ◌≡◌, ◌≤◌, ◌⊎◌, List, [], ◌∷◌, ◌++◌, length, refl, sym, ap, ◌∙◌, arith, subst, inl, inr, length-append, append_assoc, append-nil}
-use Rattle.cbor_head.specs.Prelude.{head, Holds, Spelling, Spellings, SpelledEntries, no_spellings, a_spelling, no_entries, entry, spell, spell_all, spell_entries, spellings_count, entries_count, IsSpelled, HoldsOrIndefinite, depth, Rules, Complaint, OfCount, Complains, OfHead}
+use Rattle.cbor_head.specs.Prelude.{head, Holds, Spelling, Spellings, SpelledEntries, no_spellings, a_spelling, no_entries, entry, spell, spell_all, spell_entries, spellings_count, entries_count, IsSpelled, HoldsOrIndefinite, depth, Rules, Complaint, OfCount, OfKey, Complains, OfHead}
 use Rattle.cbor_head.specs.declared.major.Major.TheVariants.{Array, Map, Tag}
 use Rattle.cbor_head.specs.declared.width.Width.{Width}
 use Rattle.theory_verdicts.specs.Frame.{Frame, a_member, a_key, a_content, tagged, with_all, with_entries, plug, before, IsFrame, depth_beside, OfKeyAt, OfBack}
@@ -57,7 +57,7 @@ member_clean w a s t b r at clean none c h =
     let g = rw (member_count a s (spellings_count b)) at h in
     elim g [
       | inl x ↦ clean c (inl x)
-      | inr x ↦ elim (members_split a (a_spelling s no_spellings) r (at + length hd) (at + length (hd ++ spell_all a)) c (omega (arith, length-append hd (spell_all a))) x) [
+      | inr x ↦ elim (members_split a (a_spelling s no_spellings) r (OfKey r.keys) (at + length hd) (at + length (hd ++ spell_all a)) c (omega (arith, length-append hd (spell_all a))) x) [
         | inl y ↦ clean c (inr y)
         | inr (inl y) ↦ none c y
         | inr (inr y) ↦ absurd y
@@ -114,7 +114,7 @@ content_clean w a k v l m o b r at clean none c h =
 -- with its last item complete, and nothing after it
 closes : (f : Frame) (s : Spelling) (r : Rules) (at : ℕ) → Never (OfClosed r at f) → AreDistinct r (open_keys at f) → Never (Complains r (at + length (before f)) s)
     → Never (OfKeyAt r (at + length (before f)) f s) → Never (OfBack r (at + length (before f) + length (spell s)) f s) → Never (Complains r at (plug f s))
-closes f s r at clean distinct none key back c h = elim (plug_split f s r at (at + length (before f)) c refl h) [
+closes f s r at clean distinct none key back c h = elim (plug_split f s r (OfKey r.keys) at (at + length (before f)) c refl h) [
   | inl x ↦ elim (prefix_apart f r at c x) [ inl y ↦ clean c y | inr y ↦ distinct c y ]
   | inr (inl x) ↦ none c x
   | inr (inr (inl x)) ↦ key c x

@@ -42,7 +42,7 @@ key_level : (l : Level) (ls : List Level) → IsKeyFrame (frame_of l) ↔ IsKeyE
 key_level (tagged w n) ls = (λ h. h, λ h. h)
 key_level _ ls = (λ h. h, λ h. h)
 
-expected_in : (ls : List Level) → IsKeyExpected (frames ls) ↔ IsKeyExpectedIn ls
+pub expected_in : (ls : List Level) → IsKeyExpected (frames ls) ↔ IsKeyExpectedIn ls
 unfolding frames
 expected_in [] = (λ h. h, λ h. h)
 expected_in (l ∷ ls) =

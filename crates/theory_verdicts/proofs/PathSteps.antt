@@ -28,7 +28,7 @@ module _ (r : Rules) (at d : ℕ) (w : Width) (n : ℕ) where
         spelled = spelled_with done (a_spelling s no_spellings) h.spelled (i, tt);
         within = omega (arith, h.within, l, depth_with done (a_spelling s no_spellings));
         head_clean = h.head_clean;
-        clean = λ c g. elim (members_split done (a_spelling s no_spellings) r (at + length (head Array w n)) to c there g) [ inl x ↦ h.clean c x | inr (inl x) ↦ none c x | inr (inr x) ↦ absurd x ];
+        clean = λ c g. elim (members_split done (a_spelling s no_spellings) r (OfKey r.keys) (at + length (head Array w n)) to c there g) [ inl x ↦ h.clean c x | inr (inl x) ↦ none c x | inr (inr x) ↦ absurd x ];
       }
 
   map_more : (done : SpelledEntries) (k v : Spelling) → IsValueExpected r at d w n done k → IsSpelled v → depth v ≤ d → Never (Complains r (at + length (map_bytes w n done ++ spell k)) v) → IsMapSoFar r at d w n (more_pairs done k v)
@@ -41,7 +41,7 @@ module _ (r : Rules) (at d : ℕ) (w : Width) (n : ℕ) where
         spelled = spelled_entries_with done (entry k v no_entries) h.so_far.spelled (h.spelled, i, tt);
         within = omega (arith, h.so_far.within, h.within, l, depth_entries_with done (entry k v no_entries));
         head_clean = h.so_far.head_clean;
-        clean = λ c g. elim (entries_split done (entry k v no_entries) [] r (at + length (head Map w n)) to c there g) [
+        clean = λ c g. elim (entries_split done (entry k v no_entries) [] r (OfKey r.keys) (at + length (head Map w n)) to c there g) [
           | inl x ↦ h.so_far.clean c x
           | inr (inl x) ↦ h.clean c x
           | inr (inr (inl x)) ↦ h.fits c x

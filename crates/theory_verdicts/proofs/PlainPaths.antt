@@ -1,11 +1,12 @@
 -- What is clean by the strict rules is clean by the plain ones, in the open containers too; and a key that has the bytes of the
 -- one before it is repeated.
 use Rattle.std.proofs.Common.{◌≡◌, ℕ, suc, ◌+◌, Some, List, [], ◌∷◌, ◌++◌, length, inl, inr, refl, sym, ap, ◌∙◌, arith}
-use Rattle.cbor_head.specs.Prelude.{plain, strict, complaint, Complains, ComplainsIn, ComplainsInEntries, IsRepeated, Spelling, Spellings, SpelledEntries, no_entries, entry, spell, spellings_count, entries_count, value_of, IsSpelled, AreSpelled, AreEntriesSpelled}
+use Rattle.cbor_head.specs.Prelude.{plain, strict, complaint, Complains, IsRepeated, Spelling, Spellings, SpelledEntries, no_entries, entry, spell, spellings_count, entries_count, value_of, IsSpelled, AreSpelled, AreEntriesSpelled}
 use Rattle.cbor_head.specs.declared.{order.KeyOrder.KeyOrder, major.Major.TheVariants.Array, major.Major.TheVariants.Map, reason.Reason.TheVariants.RepeatedKey}
 use Rattle.cbor_head.specs.declared.width.Width.{Width}
 use Rattle.theory_values.proofs.PlainRules.{no_count, AreRising, below_key, no_repeat, next_key, none_plainly, none_plainly_in, none_plainly_in_entries}
-use Rattle.theory_values.proofs.{ReadLaws.length_spell, Keys.same_exactly, Strict.IsStrict, Strict.strict_spelling}
+use Rattle.theory_values.{specs.MemberComplaints.ComplainsIn, specs.MemberComplaints.ComplainsInEntries, proofs.ReadLaws.length_spell, proofs.Keys.same_exactly}
+use Rattle.theory_values.proofs.Strict.{IsStrict, strict_spelling}
 use Rattle.theory_verdicts.specs.Path.{Level, a_member, a_key, a_value, tagged, bytes_before, IsClean, AreClean, HasEnded}
 use Rattle.theory_verdicts.specs.{Frame.keys_onto, Judged.IsJudged, Judged.Never, LastKey.last_key, LastKey.IsLastKey, SoFar.IsMapSoFar}
 use Rattle.theory_verdicts.proofs.{LastKey.last_is, PathLevels.judged_key_path}

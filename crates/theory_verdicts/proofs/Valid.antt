@@ -1,11 +1,12 @@
 -- The value of an item of fewer than 2^64 bytes is in range, and of one without plain complaint valid.
 use Rattle.std.proofs.Common.{sym, ℕ, ◌+◌, ◌^◌, ◌<◌, ◌≤◌, List, [], ◌∷◌, ◌++◌, length, flat_map, refl, arith, subst, inl, inr, IsUtf8, length-append}
 use Rattle.std.{specs.List.AllByRecursion, proofs.lemmas.Str.IsUtf8-append, proofs.lemmas.Str.IsUtf8-nil}
-use Rattle.cbor_head.specs.Prelude.{head, Value, AreBytes, HasEntry, HasDistinctKeys, Same, IsInRange, AreInRange, AreEntriesInRange, IsValid, AreValid, AreEntriesValid, Chunk, IsChunk, Spelling, Spellings, SpelledEntries, unsigned, negative, bytes, text, byte_chunks, text_chunks, array, a_map, tag, simple, no_spellings, a_spelling, no_entries, entry, spell, spell_all, spell_entries, spellings_count, entries_count, value_of, values_of, entries_of, chunks_joined, chunk_bytes, chunked, break_of, IsSpelled, AreSpelled, AreEntriesSpelled, plain, Complains, ComplainsIn, ComplainsInEntries, OfChunks, IsRepeated}
+use Rattle.cbor_head.specs.Prelude.{head, Value, AreBytes, HasEntry, HasDistinctKeys, Same, IsInRange, AreInRange, AreEntriesInRange, IsValid, AreValid, AreEntriesValid, Chunk, IsChunk, Spelling, Spellings, SpelledEntries, unsigned, negative, bytes, text, byte_chunks, text_chunks, array, a_map, tag, simple, no_spellings, a_spelling, no_entries, entry, spell, spell_all, spell_entries, spellings_count, entries_count, value_of, values_of, entries_of, chunks_joined, chunk_bytes, chunked, break_of, IsSpelled, AreSpelled, AreEntriesSpelled, plain, Complains, OfChunks, IsRepeated}
 use Rattle.cbor_head.specs.declared.major.Major.TheVariants.{Bytes, Text, Array, Map, Tag}
 use Rattle.cbor_head.specs.declared.{major.Major.Major, width.Width.TheVariants.Indefinite}
 use Rattle.theory_values.proofs.Counts.{holds_fits, values_count-of, entries_count-of}
-use Rattle.theory_values.proofs.{ReadLaws.length_spell, ByteLists.bytes_join, Stable.utf8_stable}
+use Rattle.theory_values.{specs.MemberComplaints.ComplainsIn, specs.MemberComplaints.ComplainsInEntries, proofs.ReadLaws.length_spell}
+use Rattle.theory_values.proofs.{ByteLists.bytes_join, Stable.utf8_stable}
 use Rattle.theory_verdicts.{specs.Judged.Never, proofs.Levels.Among}
 
 -- ---- counts

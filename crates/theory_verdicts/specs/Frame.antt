@@ -1,6 +1,6 @@
 -- A container around an item: what comes before the item in it, and what comes after.
 use Rattle.std.specs.Prelude.{ℕ, suc, max, ◌+◌, ◌⊎◌, ◌++◌, List, [], ◌∷◌, length}
-use Rattle.cbor_head.specs.Prelude.{Holds, head, Spelling, Spellings, SpelledEntries, array, a_map, tag, no_spellings, a_spelling, no_entries, entry, spell, spell_all, spell_entries, spellings_count, entries_count, break_of, IsSpelled, AreSpelled, AreEntriesSpelled, HoldsOrIndefinite, depth, depth_all, depth_entries, Rules, Complaint, OfHead, OfCount, OfKey, Complains, ComplainsIn, ComplainsInEntries}
+use Rattle.cbor_head.specs.Prelude.{Holds, head, Spelling, Spellings, SpelledEntries, array, a_map, tag, no_spellings, a_spelling, no_entries, entry, spell, spell_all, spell_entries, spellings_count, entries_count, break_of, IsSpelled, AreSpelled, AreEntriesSpelled, HoldsOrIndefinite, depth, depth_all, depth_entries, Rules, Complaint, OfHead, OfCount, OfKey, ComplainsBy, ComplainsInBy, ComplainsInEntriesBy}
 use Rattle.cbor_head.specs.declared.major.Major.TheVariants.{Array, Map, Tag}
 use Rattle.cbor_head.specs.declared.width.Width.{Width}
 
@@ -60,26 +60,36 @@ depth_beside (a_key w a v b) = max (max (depth_entries a) (depth v)) (depth_entr
 depth_beside (a_content w a k b) = max (max (depth_entries a) (depth k)) (depth_entries b)
 depth_beside (tagged w n) = 0
 
--- a complaint about what comes before the item
-abbrev pub OfPrefix : Rules → ℕ → Frame → Complaint → Type 0
-OfPrefix r at (a_member w a b) c =
-    OfCount r at Array w (spellings_count a + suc (spellings_count b)) c ⊎ ComplainsIn r (at + length (head Array w (spellings_count a + suc (spellings_count b)))) a c
-OfPrefix r at (a_key w a v b) c =
-    OfCount r at Map w (entries_count a + suc (entries_count b)) c ⊎ ComplainsInEntries r (at + length (head Map w (entries_count a + suc (entries_count b)))) [] a c
-OfPrefix r at (a_content w a k b) c =
-    OfCount r at Map w (entries_count a + suc (entries_count b)) c ⊎ ComplainsInEntries r (at + length (head Map w (entries_count a + suc (entries_count b)))) [] a c
-    ⊎ Complains r (at + length (head Map w (entries_count a + suc (entries_count b)) ++ spell_entries a)) k c
-    ⊎ OfKey r.keys (at + length (head Map w (entries_count a + suc (entries_count b)) ++ spell_entries a)) (keys_onto [] a) k c
-OfPrefix r at (tagged w n) c = OfHead r at Tag w n c
+-- a complaint about what comes before the item, where K has those of each key
+abbrev pub OfPrefixBy : Rules → (ℕ → List Spelling → Spelling → Complaint → Type 0) → ℕ → Frame → Complaint → Type 0
+OfPrefixBy r K at (a_member w a b) c =
+    OfCount r at Array w (spellings_count a + suc (spellings_count b)) c ⊎ ComplainsInBy r K (at + length (head Array w (spellings_count a + suc (spellings_count b)))) a c
+OfPrefixBy r K at (a_key w a v b) c =
+    OfCount r at Map w (entries_count a + suc (entries_count b)) c ⊎ ComplainsInEntriesBy r K (at + length (head Map w (entries_count a + suc (entries_count b)))) [] a c
+OfPrefixBy r K at (a_content w a k b) c =
+    OfCount r at Map w (entries_count a + suc (entries_count b)) c ⊎ ComplainsInEntriesBy r K (at + length (head Map w (entries_count a + suc (entries_count b)))) [] a c
+    ⊎ ComplainsBy r K (at + length (head Map w (entries_count a + suc (entries_count b)) ++ spell_entries a)) k c
+    ⊎ K (at + length (head Map w (entries_count a + suc (entries_count b)) ++ spell_entries a)) (keys_onto [] a) k c
+OfPrefixBy r K at (tagged w n) c = OfHead r at Tag w n c
 
 -- a complaint about the item as a key
-abbrev pub OfKeyAt : Rules → ℕ → Frame → Spelling → Complaint → Type 0
-OfKeyAt r at (a_key w a v b) s c = OfKey r.keys at (keys_onto [] a) s c
-OfKeyAt r at _ s c = ⊥
+abbrev pub OfKeyAtBy : Rules → (ℕ → List Spelling → Spelling → Complaint → Type 0) → ℕ → Frame → Spelling → Complaint → Type 0
+OfKeyAtBy r K at (a_key w a v b) s c = K at (keys_onto [] a) s c
+OfKeyAtBy r K at _ s c = ⊥
 
 -- a complaint about what comes after the item
+abbrev pub OfBackBy : Rules → (ℕ → List Spelling → Spelling → Complaint → Type 0) → ℕ → Frame → Spelling → Complaint → Type 0
+OfBackBy r K at (a_member w a b) s c = ComplainsInBy r K at b c
+OfBackBy r K at (a_key w a v b) s c = ComplainsBy r K at v c ⊎ ComplainsInEntriesBy r K (at + length (spell v)) (s ∷ keys_onto [] a) b c
+OfBackBy r K at (a_content w a k b) s c = ComplainsInEntriesBy r K at (k ∷ keys_onto [] a) b c
+OfBackBy r K at (tagged w n) s c = ⊥
+
+-- by the rules
+abbrev pub OfPrefix : Rules → ℕ → Frame → Complaint → Type 0
+OfPrefix r = OfPrefixBy r (OfKey r.keys)
+
+abbrev pub OfKeyAt : Rules → ℕ → Frame → Spelling → Complaint → Type 0
+OfKeyAt r = OfKeyAtBy r (OfKey r.keys)
+
 abbrev pub OfBack : Rules → ℕ → Frame → Spelling → Complaint → Type 0
-OfBack r at (a_member w a b) s c = ComplainsIn r at b c
-OfBack r at (a_key w a v b) s c = Complains r at v c ⊎ ComplainsInEntries r (at + length (spell v)) (s ∷ keys_onto [] a) b c
-OfBack r at (a_content w a k b) s c = ComplainsInEntries r at (k ∷ keys_onto [] a) b c
-OfBack r at (tagged w n) s c = ⊥
+OfBack r = OfBackBy r (OfKey r.keys)

@@ -1,7 +1,8 @@
 -- The containers that are open around an item, and the complete keys of the maps among them.
 use Rattle.std.specs.Prelude.{ℕ, suc, ◌+◌, ◌≡◌, ◌≤◌, ◌⊎◌, ◌++◌, List, [], ◌∷◌, length}
-use Rattle.cbor_head.specs.Prelude.{head, Spelling, SpelledEntries, no_entries, entry, spell, spell_entries, spellings_count, entries_count, Rules, Complaint, OfHead, OfCount, OfKey, Complains, ComplainsIn}
+use Rattle.cbor_head.specs.Prelude.{head, Spelling, SpelledEntries, no_entries, entry, spell, spell_entries, spellings_count, entries_count, Rules, Complaint, OfHead, OfCount, OfKey, Complains}
 use Rattle.cbor_head.specs.declared.major.Major.TheVariants.{Array, Map, Tag}
+use Rattle.theory_values.specs.MemberComplaints.{ComplainsIn}
 use Rattle.theory_verdicts.specs.Frame.{Frame, a_member, a_key, a_content, tagged, before, IsFrame, depth_beside}
 
 -- ---- the complete keys of a map

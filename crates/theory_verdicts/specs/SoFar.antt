@@ -1,7 +1,8 @@
 -- An array or a map of which some members or pairs have been read, without complaint, and its bytes so far.
 use Rattle.std.specs.Prelude.{ℕ, ◌+◌, ◌≤◌, ◌++◌, List, [], length}
-use Rattle.cbor_head.specs.Prelude.{head, Spellings, SpelledEntries, spell_all, spell_entries, AreSpelled, AreEntriesSpelled, HoldsOrIndefinite, depth_all, depth_entries, Rules, OfCount, ComplainsIn, ComplainsInEntries}
+use Rattle.cbor_head.specs.Prelude.{head, Spellings, SpelledEntries, spell_all, spell_entries, AreSpelled, AreEntriesSpelled, HoldsOrIndefinite, depth_all, depth_entries, Rules, OfCount}
 use Rattle.cbor_head.specs.declared.{major.Major.TheVariants.Array, major.Major.TheVariants.Map, width.Width.Width}
+use Rattle.theory_values.specs.MemberComplaints.{ComplainsIn, ComplainsInEntries}
 use Rattle.theory_verdicts.specs.Judged.{Never}
 
 -- an array of n members at an offset, of which these have been read, without complaint
