@@ -3,8 +3,9 @@
 
     scripts/edits.py [--proved] NAME ..    those of these crates
     scripts/edits.py [--proved] --all      those of all crates: up to two processor hours
-    scripts/edits.py [--proved] --sample   those of each crate that changed in the last 20 commits, and of a quarter of the
-                                           others: the number of commits determines it, so that four commits try all
+    scripts/edits.py [--proved] --sample   those of crates that changed in the last 20 commits, and of a quarter of the
+                                           others, as far as they are at most 150: the number of commits determines
+                                           which come first, so that further commits try the others
     scripts/edits.py --apply-only [NAME ..]  proves nothing: whether each edit there, and in must-fail/, can be applied
 
 An edit that is still proved, or that cannot be applied or compiled, fails, and the status is 1. A check begins with what
@@ -33,6 +34,8 @@ from kit import load_rt
 ROOT = os.path.dirname(os.path.dirname(os.path.abspath(__file__)))
 OPTIONS = ("--all", "--sample", "--apply-only", "--proved")
 COMMITS, TURNS = 20, 4
+# The most wrong bodies in a sample. They take about three quarters of an hour of a processor.
+MOST = 150
 # A check with two jobs needs little more processor time than one with one job.
 JOBS = 2
 # Seconds of a processor for each wrong body, on average: for the first line that is printed.
@@ -95,13 +98,16 @@ def changed_crates():
 def sample():
     """The crates whose turn it is, each with the reason, and the others."""
     names, changed = crates_with_edits("wrong-bodies"), changed_crates()
-    turn = int(git("rev-list", "--count", "--first-parent", "HEAD") or 0) % TURNS
-    chosen = {}
-    for at, name in enumerate(names):
-        if name in changed:
-            chosen[name] = "changed"
-        elif at % TURNS == turn:
-            chosen[name] = "its turn"
+    number = int(git("rev-list", "--count", "--first-parent", "HEAD") or 0)
+    reasons = {name: "its turn" for name in names[number % TURNS :: TURNS]} | dict.fromkeys(changed, "changed")
+    first = number % len(names)
+    in_turn = sorted(names[first:] + names[:first], key=lambda it: it not in changed)
+    chosen, count = {}, 0
+    for name in in_turn:
+        more = len(paths_of(name, "wrong-bodies"))
+        if name in reasons and count + more <= MOST:
+            chosen[name] = reasons[name]
+            count += more
     return chosen, [it for it in names if it not in chosen]
 
 
