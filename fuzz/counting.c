@@ -34,7 +34,7 @@ static int find_text(struct dl_phdr_info *info, size_t size, void *unused) {
 }
 
 // Whether a call instruction of the program ends here: of a distance, a register or a word of memory.
-static int is_behind_call(const unsigned char *at) {
+static int follows_call(const unsigned char *at) {
     if (at < text + 6 || at >= text_end) return 0;
     return at[-5] == 0xe8 || (at[-2] == 0xff && (at[-1] & 0x38) == 0x10) || (at[-6] == 0xff && at[-5] == 0x15);
 }
@@ -45,7 +45,7 @@ static uint32_t calls(void) {
     const unsigned char *const *word = __builtin_frame_address(0);
     uint32_t number = 0;
     for (int i = 0; i < NEAR; i++) {
-        if (is_behind_call(word[i])) number = number * 16777619u + (uint32_t)(word[i] - text);
+        if (follows_call(word[i])) number = number * 16777619u + (uint32_t)(word[i] - text);
     }
     return number;
 }

@@ -19,16 +19,16 @@ IMPORT = re.compile(r"^use (Rattle\.[^\s{]+)\.\{(.*)\}$")
 def ranks():
     """The crates, each after those that it depends on; std and the kit's crates come first."""
     lines = [it.partition("#")[0].partition(":") for it in (ROOT / "crates.txt").read_text().splitlines()]
-    stands_on = {name.split()[0]: libraries.split() for name, colon, libraries in lines if colon}
+    depends_on = {name.split()[0]: libraries.split() for name, colon, libraries in lines if colon}
     order = []
 
     def visit(crate):
-        for below in stands_on.get(crate, []):
+        for below in depends_on.get(crate, []):
             visit(below)
-        if crate in stands_on and crate not in order:
+        if crate in depends_on and crate not in order:
             order.append(crate)
 
-    for crate in stands_on:
+    for crate in depends_on:
         visit(crate)
     return {it: at for at, it in enumerate(order)}
 

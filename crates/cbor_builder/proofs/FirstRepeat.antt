@@ -94,7 +94,7 @@ module _ (out : List ℕ) (xs : List Span) (rise : Rise out xs) where
   pub one_found : (t : Tie) (n : ℕ) → IsFirstTie out xs (length xs) (Some t) → n ≡ count_by (lies_before t.later) xs → IsFirstRepeat (map (key_of out) xs) (n + bool_byte (t.earlier == t.later))
   one_found t n ((i, j, less, lj, (same, low, high)), first) e = elim (cases_eq t.earlier t.later) [
     | inl is ↦ subst (λ b. IsFirstRepeat (map (key_of out) xs) (n + bool_byte b)) (sym (eq-eqb t.earlier t.later is)) (
-      repeats_at n (n + 1) (omega arith) (omega (arith, (behind_at is).0, less, lj)) (there.1 ∙ sym (behind_at is).1.1),
+      repeats_at n (n + 1) (omega arith) (omega (arith, (after_at is).0, less, lj)) (there.1 ∙ sym (after_at is).1.1),
       λ k lk r. elim (cases_lt k n) [
         | inl g ↦ early k g r
         | inr g ↦
@@ -124,8 +124,8 @@ module _ (out : List ℕ) (xs : List Span) (rise : Rise out xs) where
       there = same_place n j t.later l lj (λ g. omega (arith, (side n (omega (arith, l, lj))).0 g)) (omega (arith, up, high))
 
       -- if the two have one place, so do span n and the next one
-      behind_at : t.earlier ≡ t.later → (n ≤ i) × ((place (nth xs (n + 1)) ≡ t.later) × (key_of out (nth xs (n + 1)) ≡ key_of out (nth xs j)))
-      behind_at is =
+      after_at : t.earlier ≡ t.later → (n ≤ i) × ((place (nth xs (n + 1)) ≡ t.later) × (key_of out (nth xs (n + 1)) ≡ key_of out (nth xs j)))
+      after_at is =
           let more : n ≤ i = omega (arith, (side i (omega (arith, less, lj))).1, up, low, high, is) in
           (more, same_place (n + 1) j t.later (omega (arith, more, less)) lj (λ g. omega (arith, (side (n + 1) (omega (arith, more, less, lj))).0 g)) (omega (arith, up, high)))
 

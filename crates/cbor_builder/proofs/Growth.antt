@@ -6,7 +6,7 @@ use Rattle.cbor_head.specs.declared.major.Major.TheVariants as of_major
 use Rattle.cbor_head.specs.{declared.major.Major.Major, Prelude.in_order, Prelude.shortest_head, declared.order.KeyOrder.KeyOrder}
 use Rattle.theory_values.specs.Parts.{plain, an_array, a_map, a_key, a_string, pair, with_member, with_content, give, opened, extended, close, closed}
 use Rattle.theory_values.specs.{Pairs.IsRising, Pairs.pair_bytes, KeyPrefix.prefix_of}
-use Rattle.cbor_builder.specs.inner.Laid.{pairs_from, Tile, shape_open, outer_spans, opens, Fits, Laid, Takes, IsString, IsReady, shape_after, span, spans_after, KeepsRising, Stands, Completed, opening_frame}
+use Rattle.cbor_builder.specs.inner.Laid.{pairs_from, Tile, shape_open, outer_spans, opens, Fits, Laid, Takes, IsString, IsReady, shape_after, span, spans_after, KeepsRising, Agrees, Completed, opening_frame}
 use Rattle.cbor_builder.specs.declared.frame.Shape.TheVariants.{Plain, Array, Map, Key, Content}
 use Rattle.cbor_builder.{proofs.Written.take_prefix, proofs.Written.drop_prefix, specs.inner.Spans.span_pair, specs.inner.Spans.AreWithin}
 use Rattle.cbor_builder.{specs.declared.span.Span.Span, proofs.Slices.slice_all, proofs.Slices.slice_prefix, specs.inner.Prefix.ArePrefixed}
@@ -60,10 +60,10 @@ tile_joins out a (s ∷ ss) n t e =
 
 pub given : (o : KeyOrder) (out b : List ℕ) (ss : List Span) (f : Frame) (fs : List Frame) (out' : List ℕ) (ss' : List Span) (f' : Frame)
     → Laid o out ss (f ∷ fs) → Takes f.shape → out' ≡ out ++ b → Completed o ss (length out) f out' ss' f'
-    → Stands o out' ss' (f' ∷ fs) (give b (opens out ss (f ∷ fs)))
+    → Agrees o out' ss' (f' ∷ fs) (give b (opens out ss (f ∷ fs)))
 given o out b ss f fs out' ss' f' laid takes e c =
     let spans : ss' ≡ spans_after (out ++ b) ss (length out) f.shape = c.3 ∙ (λ i. spans_after (e i) ss (length out) f.shape) in
-    coe 1 0 (i. Stands o (e i) (spans i) (record { from = c.0 i; start = c.1 i; shape = c.2 i; rises = f'.rises } ∷ fs) (give b (opens out ss (f ∷ fs))))
+    coe 1 0 (i. Agrees o (e i) (spans i) (record { from = c.0 i; start = c.1 i; shape = c.2 i; rises = f'.rises } ∷ fs) (give b (opens out ss (f ∷ fs))))
     (by_shape f.shape laid.2 laid.3 takes (coe 0 1 (i. KeepsRising o (e i) ss (length out) f.shape f.rises f'.rises) c.4))
   where
     start : f.start ≤ length (out ++ b)
@@ -73,7 +73,7 @@ given o out b ss f fs out' ss' f' laid takes e c =
     t = take-append-le f.from out b (omega (arith, laid.0, laid.1))
 
     by_shape : (s : Shape) → Fits o out ss f.from f.start f.rises s → Laid o (take f.from out) (outer_spans ss s) fs → Takes s → KeepsRising o (out ++ b) ss (length out) s f.rises f'.rises
-        → Stands o (out ++ b) (spans_after (out ++ b) ss (length out) s) (record { from = f.from; start = f.start; shape = shape_after (length out) s; rises = f'.rises } ∷ fs)
+        → Agrees o (out ++ b) (spans_after (out ++ b) ss (length out) s) (record { from = f.from; start = f.start; shape = shape_after (length out) s; rises = f'.rises } ∷ fs)
         (with_member b (shape_open out ss f.start s) ∷ opens (take f.from out) (outer_spans ss s) fs)
     by_shape Plain fits outer takes keeps = ((laid.0, start, fits, coe 1 0 (i. Laid o (t i) ss fs) outer), λ i. plain (drop-append-le f.start out b laid.1 i) ∷ opens (t i) ss fs)
     by_shape (Array k) fits outer takes keeps = ((laid.0, start, takes, coe 1 0 (i. Laid o (t i) ss fs) outer), λ i. an_array (suc k) (drop-append-le f.start out b laid.1 i) ∷ opens (t i) ss fs)
@@ -124,11 +124,11 @@ key_ready o out b ss f fs bytes at laid eb ea first key e =
 -- ---- more of a string
 
 pub lengthened : (o : KeyOrder) (out b : List ℕ) (ss : List Span) (f : Frame) (fs : List Frame) → Laid o out ss (f ∷ fs) → IsString f.shape
-    → Stands o (out ++ b) ss (f ∷ fs) (extended b (opens out ss (f ∷ fs)))
+    → Agrees o (out ++ b) ss (f ∷ fs) (extended b (opens out ss (f ∷ fs)))
 lengthened o out b ss f fs laid string = by_shape f.shape laid.2 laid.3 string
   where
     by_shape : (s : Shape) → Fits o out ss f.from f.start f.rises s → Laid o (take f.from out) (outer_spans ss s) fs → IsString s
-        → Stands o (out ++ b) ss (record { from = f.from; start = f.start; shape = s; rises = f.rises } ∷ fs) (with_content b (shape_open out ss f.start s) ∷ opens (take f.from out) (outer_spans ss s) fs)
+        → Agrees o (out ++ b) ss (record { from = f.from; start = f.start; shape = s; rises = f.rises } ∷ fs) (with_content b (shape_open out ss f.start s) ∷ opens (take f.from out) (outer_spans ss s) fs)
     by_shape (Content m) fits outer h =
         let t = take-append-le f.from out b (omega (arith, laid.0, laid.1)) in
         ((laid.0, omega (arith, length-append out b, laid.1), fits, coe 1 0 (i. Laid o (t i) ss fs) outer), λ i. a_string m (drop-append-le f.start out b laid.1 i) ∷ opens (t i) ss fs)
@@ -140,7 +140,7 @@ lengthened o out b ss f fs laid string = by_shape f.shape laid.2 laid.3 string
 pub ended : (o : KeyOrder) (out : List ℕ) (ss : List Span) (f g : Frame) (fs : List Frame) (out' : List ℕ) (ss' : List Span) (g' : Frame)
     → Laid o out ss (f ∷ g ∷ fs) → Takes g.shape → out' ≡ take f.from out ++ closed o (shape_open out ss f.start f.shape)
     → Completed o (outer_spans ss f.shape) f.from g out' ss' g'
-    → Stands o out' ss' (g' ∷ fs) (close o (opens out ss (f ∷ g ∷ fs)))
+    → Agrees o out' ss' (g' ∷ fs) (close o (opens out ss (f ∷ g ∷ fs)))
 ended o out ss f g fs out' ss' g' laid takes e c =
     let n : f.from ≡ length (take f.from out) = omega (arith, length-take f.from out, laid.0, laid.1) in
     given o (take f.from out) (closed o (shape_open out ss f.start f.shape)) (outer_spans ss f.shape) g fs out' ss' g' laid.3 takes e

@@ -74,9 +74,9 @@ head_moved xs h len from start k m g b e fits n is =
     let flat : moved ≡ take (from + k) xs ++ (tail ++ rest) = append_assoc (take (from + k) xs) tail rest in
     let prefix : take from moved ≡ take from out =
     ap (take from) flat ∙ take_prefix from (from + k) xs (tail ++ rest) (omega arith) (omega (arith, fits)) ∙ ap (take from) whole ∙ take-append-le from out (drop len xs) (omega (arith, l, b, e, g)) in
-    let behind : drop k (drop from moved) ≡ drop start out ++ rest =
+    let following : drop k (drop from moved) ≡ drop start out ++ rest =
     drop-drop k from moved ∙ ap (drop (from + k)) flat ∙ drop_prefix (from + k) xs (tail ++ rest) (omega (arith, fits)) ∙ ap (λ (us : List ℕ). us ++ rest) same in
-    (λ i. take m (prefix i ++ (h ++ behind i))) ∙ head_and_tail (take from out) h (drop start out) rest m (omega (arith, l, length-take from out, lo, n, is, b, e, g))
+    (λ i. take m (prefix i ++ (h ++ following i))) ∙ head_and_tail (take from out) h (drop start out) rest m (omega (arith, l, length-take from out, lo, n, is, b, e, g))
 
 -- ---- of a vector whose first len elements are the output
 
@@ -126,6 +126,6 @@ vec_closed_up items was new out n len r s e is en l eo h b g now =
     let prefix = prefix_of_list items out len eo (omega (arith, en, h)) in
     let long : length out ≡ len = omega (arith, length-take len items, ap length eo, en, h) in
     let before : take s items ≡ take s out = sym (take-take s len items (omega (arith, long, b, g))) ∙ ap (take s) eo in
-    let behind : slice_range items e len ≡ drop e out = slice_within items out e len prefix (omega (arith, long, g)) (omega (arith, long)) ∙ slice_all out e len long in
+    let following : slice_range items e len ≡ drop e out = slice_within items out e len prefix (omega (arith, long, g)) (omega (arith, long)) ∙ slice_all out e len long in
     ap (take r) (written_back items new n en (l ∙ ap length is)) ∙ now ∙ ap (λ (xs : List ℕ). take s xs ++ slice_range xs e len) is
-    ∙ (λ i. before i ++ behind i)
+    ∙ (λ i. before i ++ following i)

@@ -9,7 +9,7 @@ ghost use Rattle.theory_values.specs.Parts.{plain, give, opened, extended};
 ghost use Rattle.cbor_builder.specs.inner.Laid.{Takes, IsString, Laid, outer_spans, shape_open};
 ghost use Rattle.cbor_builder.specs.inner.BuilderState.{open_levels, frames, outers, IsLaid};
 ghost use Rattle.cbor_builder.specs.inner.BuilderState.{WasLaid, came_open_levels};
-ghost use Rattle.cbor_builder.specs.inner.BuilderState.{StandsAs, CoreLeaves};
+ghost use Rattle.cbor_builder.specs.inner.BuilderState.{IsLaidWith, CoreLeaves};
 ghost use Rattle.cbor_builder.specs.declared.frame.Shape.TheVariants.{Key};
 ghost use Rattle.cbor_builder.specs.declared.span.Span.{Span};
 ghost use Rattle.cbor_builder.specs.inner.Repeats.{ReportsOf, Reports};
@@ -48,7 +48,7 @@ pub(crate) struct Core {
 impl Core {
     pub(crate) fn new(alloc: Global, order: KeyOrder) -> Core
         ensures order { result.order ≡ order }
-        ensures stands { StandsAs result (plain [] ∷ []) }
+        ensures agrees { IsLaidWith result (plain [] ∷ []) }
     {
         Core {
             order,
@@ -63,7 +63,7 @@ impl Core {
     // Makes it as new, for keys in this order. Its memory stays allocated.
     pub(crate) fn clear(&mut self, order: KeyOrder)
         ensures order { self.new.order ≡ order }
-        ensures stands { StandsAs self.new (plain [] ∷ []) }
+        ensures agrees { IsLaidWith self.new (plain [] ∷ []) }
     {
         self.order = order;
         self.out.cut(0);

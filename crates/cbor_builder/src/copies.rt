@@ -5,12 +5,12 @@ ghost use Rattle.std.specs.Prelude.{◌≡◌, ◌≤◌, ◌+◌, ◌-◌, ◌+
 /// Copies the bytes from `start` to `end` to after the first `len` bytes, if there is space.
 /// Returns where the copy ends.
 #[inline(always)]
-pub(crate) fn copy_behind(buf: &mut [u8], len: usize, start: usize, end: usize) -> usize
+pub(crate) fn copy_after(buf: &mut [u8], len: usize, start: usize, end: usize) -> usize
     requires begins { start ≤ end }
     requires ends { end ≤ len }
     requires space { len + (end - start) ≤ length buf.old }
     ensures within { result ≤ length buf.new }
-    ensures behind { take result buf.new ≡ take len buf.old ++ slice_range buf.old start end }
+    ensures following { take result buf.new ≡ take len buf.old ++ slice_range buf.old start end }
 {
     let (prefix, space) = buf.split_at_mut(len);
     copy(&prefix[start..end], &mut space[..end - start]);

@@ -5,7 +5,7 @@ ghost use Rattle.std.specs.Prelude.{slice_range, vec_len, IsTrue, OnOk, OnErr};
 
 mod heads;
 
-use crate::copies::{copy, copy_behind, copy_down};
+use crate::copies::{copy, copy_after, copy_down};
 use cbor_memory::Memory;
 use std::alloc::{AllocError, Global};
 use std::marker::Model;
@@ -145,7 +145,7 @@ impl OutputBuffer {
             }
         }
         make_space(memory, &mut self.buf, self.len, count)?;
-        self.len = copy_behind(&mut self.buf, self.len, start, end);
+        self.len = copy_after(&mut self.buf, self.len, start, end);
         Ok(())
     }
 

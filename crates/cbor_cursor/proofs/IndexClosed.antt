@@ -11,8 +11,8 @@ use Rattle.cbor_cursor.{specs.WellFormed.members_of, specs.declared.placed.Place
 -- ---- over the entries of some items
 
 -- after all entries of an item
-behind_item : (p : ℕ) (s : Spelling) (rest : List PlacedItem) → drop (items_count s) (listed placed p s ++ rest) ≡ rest
-behind_item p s rest = ap (λ (n : ℕ). drop n (listed placed p s ++ rest)) (sym (length-listed placed p s)) ∙ drop-append_seam (listed placed p s) rest
+after_item : (p : ℕ) (s : Spelling) (rest : List PlacedItem) → drop (items_count s) (listed placed p s ++ rest) ≡ rest
+after_item p s rest = ap (λ (n : ℕ). drop n (listed placed p s ++ rest)) (sym (length-listed placed p s)) ∙ drop-append_seam (listed placed p s) rest
 
 abbrev pub within : ℕ → Spelling → List PlacedItem
 within p s = all_listed placed (p + head_size s + length (payload_in s)) (members_in s)
@@ -23,15 +23,15 @@ first_entry p s ss rest =
     let q = p + length (spell s) in
     append_assoc (listed placed p s) (all_listed placed q ss) rest ∙ ap (λ (l : List PlacedItem). l ++ (all_listed placed q ss ++ rest)) (listed_parts placed p s)
 
-behind_entries : (p : ℕ) (s : Spelling) (rest : List PlacedItem) → drop (items_count s) (placed p s ∷ (within p s ++ rest)) ≡ rest
-behind_entries p s rest = ap (λ (l : List PlacedItem). drop (items_count s) (l ++ rest)) (sym (listed_parts placed p s)) ∙ behind_item p s rest
+after_entries : (p : ℕ) (s : Spelling) (rest : List PlacedItem) → drop (items_count s) (placed p s ∷ (within p s ++ rest)) ≡ rest
+after_entries p s rest = ap (λ (l : List PlacedItem). drop (items_count s) (l ++ rest)) (sym (listed_parts placed p s)) ∙ after_item p s rest
 
 pub ends : (s : Spelling) (ss : Spellings) (p e : ℕ) (rest : List PlacedItem)
     → end_of (suc (spellings_count ss)) e (all_listed placed p (a_spelling s ss) ++ rest) ≡ p + length (spell s ++ spell_all ss)
 ends s ss p e rest =
     let q = p + length (spell s) in
     ap (end_of (suc (spellings_count ss)) e) (first_entry p s ss rest)
-    ∙ ap (end_of (spellings_count ss) q) (behind_entries p s (all_listed placed q ss ++ rest))
+    ∙ ap (end_of (spellings_count ss) q) (after_entries p s (all_listed placed q ss ++ rest))
     ∙ more ss q ∙ omega (arith, length-append (spell s) (spell_all ss))
   where
     more : (ts : Spellings) (q : ℕ) → end_of (spellings_count ts) q (all_listed placed q ts ++ rest) ≡ q + length (spell_all ts)
@@ -39,7 +39,7 @@ ends s ss p e rest =
     more (a_spelling t ts) q =
         let r = q + length (spell t) in
         ap (end_of (suc (spellings_count ts)) q) (first_entry q t ts rest)
-        ∙ ap (end_of (spellings_count ts) r) (behind_entries q t (all_listed placed r ts ++ rest))
+        ∙ ap (end_of (spellings_count ts) r) (after_entries q t (all_listed placed r ts ++ rest))
         ∙ more ts r ∙ omega (arith, length-append (spell t) (spell_all ts))
 
 pub counts : (ss : Spellings) (p : ℕ) (rest : List PlacedItem) → entries_in (spellings_count ss) (all_listed placed p ss ++ rest) ≡ all_count ss
@@ -47,7 +47,7 @@ counts no_spellings p rest = refl
 counts (a_spelling s ss) p rest =
     let q = p + length (spell s) in
     ap (entries_in (suc (spellings_count ss))) (first_entry p s ss rest)
-    ∙ ap (λ (l : List PlacedItem). items_count s + entries_in (spellings_count ss) l) (behind_entries p s (all_listed placed q ss ++ rest))
+    ∙ ap (λ (l : List PlacedItem). items_count s + entries_in (spellings_count ss) l) (after_entries p s (all_listed placed q ss ++ rest))
     ∙ ap (λ (n : ℕ). items_count s + n) (counts ss q rest)
 
 -- ---- one entry
@@ -90,9 +90,9 @@ ended_item s p rest h =
 closed_node : (s : Spelling) (p : ℕ) (rest : List PlacedItem) → IsDefinite s
     → closed (all_listed opened_at (p + head_size s + length (payload_in s)) (members_in s) ++ rest) ≡ within p s ++ closed rest
     → closed (listed opened_at p s ++ rest) ≡ listed placed p s ++ closed rest
-closed_node s p rest h behind =
+closed_node s p rest h following =
     ap (λ (l : List PlacedItem). closed (l ++ rest)) (listed_parts opened_at p s)
-    ∙ ap (λ (l : List PlacedItem). ended (opened_at p s) l ∷ l) behind
+    ∙ ap (λ (l : List PlacedItem). ended (opened_at p s) l ∷ l) following
     ∙ ap (λ (x : PlacedItem). x ∷ (within p s ++ closed rest)) (ended_item s p (closed rest) h)
     ∙ ap (λ (l : List PlacedItem). l ++ closed rest) (sym (listed_parts placed p s))
 

@@ -79,11 +79,11 @@ pub next_head : (s : Spelling) (bytes : List ℕ) (items : List PlacedItem) (off
 next_head s bytes items offset count i = a_head (major_in i.first) (width_in i.first) (number_in i.first) (drop offset bytes) _ (head_in i.first i.definite) i.bytes_are
 
 module _ (s : Spelling) (bytes : List ℕ) (items : List PlacedItem) (offset count : ℕ) (i : IsNext s bytes items offset count) (within : offset ≤ length bytes) where
-  abbrev behind : Spellings
-  behind = joined (members_in i.first) i.others
+  abbrev following : Spellings
+  following = joined (members_in i.first) i.others
 
   -- where the head ends
-  pub content_is : (content : ℕ) → content ≤ length bytes → drop content bytes ≡ payload_in i.first ++ spell_all behind → content ≡ offset + head_size i.first
+  pub content_is : (content : ℕ) → content ≤ length bytes → drop content bytes ≡ payload_in i.first ++ spell_all following → content ≡ offset + head_size i.first
   content_is content l e =
       omega (
         arith,
@@ -93,10 +93,10 @@ module _ (s : Spelling) (bytes : List ℕ) (items : List PlacedItem) (offset cou
         length-drop content bytes,
         ap length e,
         ap length i.bytes_are,
-        length-append (head (major_in i.first) (width_in i.first) (number_in i.first)) (payload_in i.first ++ spell_all behind),
+        length-append (head (major_in i.first) (width_in i.first) (number_in i.first)) (payload_in i.first ++ spell_all following),
       )
 
-  module _ (content : ℕ) (l : content ≤ length bytes) (e : drop content bytes ≡ payload_in i.first ++ spell_all behind) where
+  module _ (content : ℕ) (l : content ≤ length bytes) (e : drop content bytes ≡ payload_in i.first ++ spell_all following) where
     payload_size : payload_of (major_number (major_in i.first)) (number_in i.first) ≡ length (payload_in i.first)
     payload_size = payload_is i.first i.definite
 
@@ -113,8 +113,8 @@ module _ (s : Spelling) (bytes : List ℕ) (items : List PlacedItem) (offset cou
           l,
           length-drop content bytes,
           ap length e,
-          length-append (payload_in i.first) (spell_all behind),
-          count_fits behind,
+          length-append (payload_in i.first) (spell_all following),
+          count_fits following,
           count-joined (members_in i.first) i.others,
         )
 
@@ -126,9 +126,9 @@ module _ (s : Spelling) (bytes : List ℕ) (items : List PlacedItem) (offset cou
         let size : end ≡ content + length (payload_in i.first) = at ∙ ap (λ (k : ℕ). content + k) payload_size in
         let here : content ≡ offset + head_size i.first = content_is content l e in
         record {
-          expected = behind;
+          expected = following;
           definite = definite-joined (members_in i.first) i.others (definite_members i.first i.definite) i.all_definite;
-          bytes_are = ap (λ (k : ℕ). drop k bytes) size ∙ sym (drop-drop (length (payload_in i.first)) content bytes) ∙ ap (drop (length (payload_in i.first))) e ∙ drop-append_seam (payload_in i.first) (spell_all behind);
+          bytes_are = ap (λ (k : ℕ). drop k bytes) size ∙ sym (drop-drop (length (payload_in i.first)) content bytes) ∙ ap (drop (length (payload_in i.first))) e ∙ drop-append_seam (payload_in i.first) (spell_all following);
           entries = omega (arith, i.entries, count_parts i.first, all_count-joined (members_in i.first) i.others);
           table = λ r.
               let space' : items_count s ≤ length items = omega (arith, r, len) in
@@ -138,9 +138,9 @@ module _ (s : Spelling) (bytes : List ℕ) (items : List PlacedItem) (offset cou
               ∙ ap (λ (k : ℕ). opened_item (major_number (major_in i.first)) (number_in i.first) offset content k (members_of (major_number (major_in i.first)) (number_in i.first))) at
               ∙ ap (λ (k : ℕ). opened_item (major_number (major_in i.first)) (number_in i.first) offset k (k + payload_of (major_number (major_in i.first)) (number_in i.first)) (members_of (major_number (major_in i.first)) (number_in i.first))) here in
               let q : end ≡ offset + head_size i.first + length (payload_in i.first) = size ∙ ap (λ (k : ℕ). k + length (payload_in i.first)) here in
-              ap (λ (xs : List PlacedItem). take (count + 1) xs ++ all_listed opened_at end behind) (written in' ∙ ap (set items count) x)
-              ∙ ap (λ (xs : List PlacedItem). xs ++ all_listed opened_at end behind) (take_more_set items count (opened_at offset i.first) in')
-              ∙ append_assoc (take count items) (opened_at offset i.first ∷ []) (all_listed opened_at end behind)
-              ∙ ap (λ (k : ℕ). take count items ++ (opened_at offset i.first ∷ all_listed opened_at k behind)) q
+              ap (λ (xs : List PlacedItem). take (count + 1) xs ++ all_listed opened_at end following) (written in' ∙ ap (set items count) x)
+              ∙ ap (λ (xs : List PlacedItem). xs ++ all_listed opened_at end following) (take_more_set items count (opened_at offset i.first) in')
+              ∙ append_assoc (take count items) (opened_at offset i.first ∷ []) (all_listed opened_at end following)
+              ∙ ap (λ (k : ℕ). take count items ++ (opened_at offset i.first ∷ all_listed opened_at k following)) q
               ∙ i.table space';
         }

@@ -4,8 +4,8 @@ use Rattle.std.proofs.{Math.ListN.drop_of_length-le, lemmas.List.drop-drop, lemm
 use Rattle.cbor_cursor.specs.inner.Indexing.{end_of, entries_in, closed_item}
 use Rattle.cbor_cursor.specs.declared.placed.PlacedItem.{PlacedItem}
 
-behind_first : (next : ℕ) (xs : List PlacedItem) (d : PlacedItem) (n : ℕ) → next < length xs → drop n (get_or xs next d ∷ drop (suc next) xs) ≡ drop (next + n) xs
-behind_first next xs d n within = ap (drop n) (sym (drop-cons xs next d within)) ∙ drop-drop n next xs
+after_first : (next : ℕ) (xs : List PlacedItem) (d : PlacedItem) (n : ℕ) → next < length xs → drop n (get_or xs next d ∷ drop (suc next) xs) ≡ drop (next + n) xs
+after_first next xs d n within = ap (drop n) (sym (drop-cons xs next d within)) ∙ drop-drop n next xs
 
 pub one_end : (left next e : ℕ) (xs : List PlacedItem) (d : PlacedItem) → 0 < left → next < length xs
     → end_of left e (drop next xs) ≡ end_of (left - 1) (get_or xs next d).end (drop (next + (get_or xs next d).entries) xs)
@@ -13,7 +13,7 @@ one_end zero next e xs d l within = absurd (omega arith)
 one_end (suc n) next e xs d l within =
     let x = get_or xs next d in
     let m : n ≡ suc n - 1 = omega arith in
-    ap (end_of (suc n) e) (drop-cons xs next d within) ∙ ap (end_of n x.end) (behind_first next xs d x.entries within)
+    ap (end_of (suc n) e) (drop-cons xs next d within) ∙ ap (end_of n x.end) (after_first next xs d x.entries within)
     ∙ ap (λ (k : ℕ). end_of k x.end (drop (next + x.entries) xs)) m
 
 pub one_more : (left next : ℕ) (xs : List PlacedItem) (d : PlacedItem) → 0 < left → next < length xs
@@ -22,7 +22,7 @@ one_more zero next xs d l within = absurd (omega arith)
 one_more (suc n) next xs d l within =
     let x = get_or xs next d in
     let m : n ≡ suc n - 1 = omega arith in
-    ap (entries_in (suc n)) (drop-cons xs next d within) ∙ ap (λ (ys : List PlacedItem). x.entries + entries_in n ys) (behind_first next xs d x.entries within)
+    ap (entries_in (suc n)) (drop-cons xs next d within) ∙ ap (λ (ys : List PlacedItem). x.entries + entries_in n ys) (after_first next xs d x.entries within)
     ∙ ap (λ (k : ℕ). x.entries + entries_in k (drop (next + x.entries) xs)) m
 
 no_end : (left e : ℕ) → end_of left e [] ≡ e
@@ -48,7 +48,7 @@ closed_is x xs e n f g l =
 
 -- ---- one entry more
 
-pub kept_behind : (xs ys zs : List PlacedItem) (n : ℕ) (x : PlacedItem) → (n < length xs → ys ≡ set xs n x) → (length xs ≤ n → ys ≡ xs) → drop n xs ≡ drop n zs → drop (n + 1) ys ≡ drop (n + 1) zs
-kept_behind xs ys zs n x written full e =
+pub kept_after : (xs ys zs : List PlacedItem) (n : ℕ) (x : PlacedItem) → (n < length xs → ys ≡ set xs n x) → (length xs ≤ n → ys ≡ xs) → drop n xs ≡ drop n zs → drop (n + 1) ys ≡ drop (n + 1) zs
+kept_after xs ys zs n x written full e =
     let after : drop (n + 1) xs ≡ drop (n + 1) zs = sym (drop-drop 1 n xs) ∙ ap (drop 1) e ∙ drop-drop 1 n zs in
     elim (cases_lt n (length xs)) [ inl l ↦ ap (drop (n + 1)) (written l) ∙ drop-set-lt (n + 1) xs n x (omega arith) ∙ after | inr l ↦ ap (drop (n + 1)) (full l) ∙ after ]

@@ -43,9 +43,9 @@ pub record IsFirstOfPairs (o : KeyOrder) (xs : List ℕ) (n : ℕ) : Type 0 wher
   pub k : Value
   pub v : Value
   pub es : Entries
-  pub behind_key : List ℕ
-  pub key_begins : BeginsWith o xs k behind_key
-  pub value_begins : BeginsWith o behind_key v (flat_map pair_bytes (canonical_entries o es))
+  pub after_key : List ℕ
+  pub key_begins : BeginsWith o xs k after_key
+  pub value_begins : BeginsWith o after_key v (flat_map pair_bytes (canonical_entries o es))
   pub finish : (key item rest : List ℕ) → key ≡ canonical o k → item ≡ canonical o v → rest ≡ flat_map pair_bytes (canonical_entries o es) → IsFirstPair o xs n key item rest
 
 pub first_pair : (o : KeyOrder) (xs : List ℕ) (n : ℕ) → (n ≡ 0 → ⊥) → AreCanonicalPairs (encoded_items o xs n) → IsFirstOfPairs o xs n
@@ -57,7 +57,7 @@ first_pair o xs n nz a = go (pairs_in (encoded_items o xs n)) refl a.range a.val
       k = k;
       v = v;
       es = es;
-      behind_key = canonical o v ++ flat_map pair_bytes (canonical_entries o es);
+      after_key = canonical o v ++ flat_map pair_bytes (canonical_entries o es);
       key_begins = record { range = h.0; valid = g.0; begins = b ∙ append_assoc (canonical o k) (canonical o v) (flat_map pair_bytes (canonical_entries o es)) };
       value_begins = record { range = h.1; valid = g.1; begins = refl };
       finish = λ key item rest i j r. (

@@ -12,20 +12,20 @@ use Rattle.theory_values.proofs.Orders.{lt_irrefl, lt_trans}
 use Rattle.cbor_cursor.specs.{Items.BeginsWith, Items.HasNoKey, inner.Pairs.ArePairsOf, Offsets.HasNoKeyBytes}
 
 -- the pairs still to come, their number, and what follows them; all earlier pairs have another key than this one
-pub record ArePairs (o : KeyOrder) (es : Entries) (key : List ℕ) (left : ℕ) (bytes behind : List ℕ) : Type 0 where
+pub record ArePairs (o : KeyOrder) (es : Entries) (key : List ℕ) (left : ℕ) (bytes following : List ℕ) : Type 0 where
   pub sound : IsSound (value.map es)
   pub before : List Pair
   pub pairs : List Pair
   pub split : in_order o (canonical_entries o es) ≡ before ++ pairs
   pub count_is : length pairs ≡ left
-  pub bytes_are : bytes ≡ flat_map pair_bytes pairs ++ behind
+  pub bytes_are : bytes ≡ flat_map pair_bytes pairs ++ following
   pub rising : IsRising o pairs
   pub within : (p : Pair) → In p pairs → In p (canonical_entries o es)
   pub others : (k v : Value) → HasEntry es k v → (canonical o k ≡ key → ⊥) ⊎ In (pair_of o k v) pairs
 
 -- all of them
-pub all_pairs : (o : KeyOrder) (es : Entries) (key : List ℕ) (left : ℕ) (bytes behind : List ℕ) → ArePairsOf o es left bytes behind → ArePairs o es key left bytes behind
-all_pairs o es key left bytes behind a = record {
+pub all_pairs : (o : KeyOrder) (es : Entries) (key : List ℕ) (left : ℕ) (bytes following : List ℕ) → ArePairsOf o es left bytes following → ArePairs o es key left bytes following
+all_pairs o es key left bytes following a = record {
   sound = sound (value.map es) a.range a.valid;
   before = [];
   pairs = in_order o (canonical_entries o es);
@@ -38,33 +38,33 @@ all_pairs o es key left bytes behind a = record {
 }
 
 -- the next of them
-pub record IsNextPair (o : KeyOrder) (es : Entries) (key : List ℕ) (left : ℕ) (bytes behind : List ℕ) : Type 0 where
+pub record IsNextPair (o : KeyOrder) (es : Entries) (key : List ℕ) (left : ℕ) (bytes following : List ℕ) : Type 0 where
   pub k : Value
   pub v : Value
   pub has : HasEntry es k v
   pub before : List Pair
   pub after : List Pair
   pub split : in_order o (canonical_entries o es) ≡ before ++ pair_of o k v ∷ after
-  pub behind_key : List ℕ
+  pub after_key : List ℕ
   pub rest : List ℕ
-  pub rest_is : rest ≡ flat_map pair_bytes after ++ behind
-  pub key_is : BeginsWith o bytes k behind_key
-  pub value_is : BeginsWith o behind_key v rest
-  pub more : (canonical o k ≡ key → ⊥) → ArePairs o es key (left - 1) rest behind
+  pub rest_is : rest ≡ flat_map pair_bytes after ++ following
+  pub key_is : BeginsWith o bytes k after_key
+  pub value_is : BeginsWith o after_key v rest
+  pub more : (canonical o k ≡ key → ⊥) → ArePairs o es key (left - 1) rest following
   -- if it comes after the key, no pair has the key
   pub none : IsTrue (key_lt o key (canonical o k)) → HasNoKeyBytes o es key
 
-pub next_pair : (o : KeyOrder) (es : Entries) (key : List ℕ) (left : ℕ) (bytes behind : List ℕ) → 0 < left → ArePairs o es key left bytes behind → IsNextPair o es key left bytes behind
-next_pair o es key left bytes behind l a = go a.pairs a.split a.count_is a.bytes_are a.rising a.within a.others
+pub next_pair : (o : KeyOrder) (es : Entries) (key : List ℕ) (left : ℕ) (bytes following : List ℕ) → 0 < left → ArePairs o es key left bytes following → IsNextPair o es key left bytes following
+next_pair o es key left bytes following l a = go a.pairs a.split a.count_is a.bytes_are a.rising a.within a.others
   where
-    go : (ps : List Pair) → in_order o (canonical_entries o es) ≡ a.before ++ ps → length ps ≡ left → bytes ≡ flat_map pair_bytes ps ++ behind → IsRising o ps → ((p : Pair) → In p ps → In p (canonical_entries o es)) → ((k v : Value) → HasEntry es k v → (canonical o k ≡ key → ⊥) ⊎ In (pair_of o k v) ps) → IsNextPair o es key left bytes behind
+    go : (ps : List Pair) → in_order o (canonical_entries o es) ≡ a.before ++ ps → length ps ≡ left → bytes ≡ flat_map pair_bytes ps ++ following → IsRising o ps → ((p : Pair) → In p ps → In p (canonical_entries o es)) → ((k v : Value) → HasEntry es k v → (canonical o k ≡ key → ⊥) ⊎ In (pair_of o k v) ps) → IsNextPair o es key left bytes following
     go [] s n e r w t = absurd (omega (arith, n, l))
     go (p ∷ ps) s n e r w t =
         let q = in_pair o es p (w p (inl refl)) in
         let k = q.0 in
         let v = q.1 in
         let both = sound_at es k v a.sound.range.1 a.sound.valid.0 q.2 in
-        let rest = flat_map pair_bytes ps ++ behind in
+        let rest = flat_map pair_bytes ps ++ following in
         let first : p.key ≡ canonical o k = ap (λ (r : Pair). r.key) q.3 in
         record {
           k = k;
@@ -73,10 +73,10 @@ next_pair o es key left bytes behind l a = go a.pairs a.split a.count_is a.bytes
           before = a.before;
           after = ps;
           split = s ∙ ap (λ (x : Pair). a.before ++ x ∷ ps) q.3;
-          behind_key = canonical o v ++ rest;
+          after_key = canonical o v ++ rest;
           rest = rest;
           rest_is = refl;
-          key_is = record { range = both.0.range; valid = both.0.valid; begins = e ∙ ap (λ (r : Pair). ((r.key ++ r.value) ++ flat_map pair_bytes ps) ++ behind) q.3 ∙ ap (λ (x : List ℕ). x ++ behind) (append_assoc (canonical o k) (canonical o v) (flat_map pair_bytes ps)) ∙ append_assoc (canonical o k) (canonical o v ++ flat_map pair_bytes ps) behind ∙ ap (λ (x : List ℕ). canonical o k ++ x) (append_assoc (canonical o v) (flat_map pair_bytes ps) behind) };
+          key_is = record { range = both.0.range; valid = both.0.valid; begins = e ∙ ap (λ (r : Pair). ((r.key ++ r.value) ++ flat_map pair_bytes ps) ++ following) q.3 ∙ ap (λ (x : List ℕ). x ++ following) (append_assoc (canonical o k) (canonical o v) (flat_map pair_bytes ps)) ∙ append_assoc (canonical o k) (canonical o v ++ flat_map pair_bytes ps) following ∙ ap (λ (x : List ℕ). canonical o k ++ x) (append_assoc (canonical o v) (flat_map pair_bytes ps) following) };
           value_is = record { range = both.1.range; valid = both.1.valid; begins = refl };
           more = λ other. record {
             sound = a.sound;
@@ -106,8 +106,8 @@ no_key o es k s h g none = λ l v m same.
     none l v m (sym (canonical_agrees o k l (sound k h g) (sound_at es l v s.range.1 s.valid.0 m).0 same))
 
 -- none are left
-pub no_pair : (o : KeyOrder) (es : Entries) (key : List ℕ) (left : ℕ) (bytes behind : List ℕ) → left ≡ 0 → ArePairs o es key left bytes behind → HasNoKeyBytes o es key
-no_pair o es key left bytes behind z a = λ l v m. elim (a.others l v m) [ inl other ↦ other | inr i ↦ λ same. none a.pairs (a.count_is ∙ z) (pair_of o l v) i ]
+pub no_pair : (o : KeyOrder) (es : Entries) (key : List ℕ) (left : ℕ) (bytes following : List ℕ) → left ≡ 0 → ArePairs o es key left bytes following → HasNoKeyBytes o es key
+no_pair o es key left bytes following z a = λ l v m. elim (a.others l v m) [ inl other ↦ other | inr i ↦ λ same. none a.pairs (a.count_is ∙ z) (pair_of o l v) i ]
   where
     none : (ps : List Pair) → length ps ≡ 0 → (p : Pair) → In p ps → ⊥
     none [] n p m = m

@@ -5,7 +5,7 @@ use Rattle.cbor_head.specs.{Prelude.Value, Prelude.map, Value.array, Value.tag}
 use Rattle.cbor_item.specs.Nodes.{entries_in, values_in}
 use Rattle.cbor_diag.specs.inner.Layout.{gap, end, laid_out, laid_pairs, laid_texts, rows}
 use Rattle.cbor_diag.specs.inner.Outbox.{HasPut, HasStopped, Puts}
-use Rattle.cbor_diag.specs.inner.Levels.{HasLeft, Leaves, all_left, behind, left_of, rest_of}
+use Rattle.cbor_diag.specs.inner.Levels.{HasLeft, Leaves, all_left, following, left_of, rest_of}
 use Rattle.cbor_diag.specs.declared.walk.Remaining.TheVariants as parts
 use Rattle.cbor_diag.proofs.Putting.{puts-next, puts-then, puts-stops, stops-more}
 use Rattle.cbor_diag.specs.declared.{outbox.Stopped.Stopped, layout.Layout.Layout, outbox.Outbox.Outbox, walk.Remaining.Remaining, walk.OpenNode.OpenNode}
@@ -60,25 +60,25 @@ without (x ∷ xs) h = absurd (h (omega arith))
 module _ {N : Type 0} (see : N → Value) where
   -- ---- one more container, or one less
 
-  pub behind-top : (l : Layout) (vs us : List (OpenNode N)) (v : OpenNode N) → us ≡ vs ++ v ∷ [] → behind see l (reverse us) ≡ rest_of see l v ++ behind see l (reverse vs)
-  behind-top l vs us v is = ap (behind see l) (ap reverse is ∙ reverse-append vs (v ∷ []))
+  pub following-top : (l : Layout) (vs us : List (OpenNode N)) (v : OpenNode N) → us ≡ vs ++ v ∷ [] → following see l (reverse us) ≡ rest_of see l v ++ following see l (reverse vs)
+  following-top l vs us v is = ap (following see l) (ap reverse is ∙ reverse-append vs (v ∷ []))
 
   -- the container that was around the one that ended, if there was one
-  popped : (l : Layout) (vs us : List (OpenNode N)) (o : Option (OpenNode N)) → vs ≡ us ++ option_to_list o → (0 < length vs → IsSome o) → behind see l (reverse vs) ≡ all_left see l o (reverse us)
-  popped l vs us None is some = ap (λ (x : List (OpenNode N)). behind see l (reverse x)) (without vs (λ h. cc (some h)))
-  popped l vs us (Some v) is some = behind-top l us vs v is
+  popped : (l : Layout) (vs us : List (OpenNode N)) (o : Option (OpenNode N)) → vs ≡ us ++ option_to_list o → (0 < length vs → IsSome o) → following see l (reverse vs) ≡ all_left see l o (reverse us)
+  popped l vs us None is some = ap (λ (x : List (OpenNode N)). following see l (reverse x)) (without vs (λ h. cc (some h)))
+  popped l vs us (Some v) is some = following-top l us vs v is
 
   -- the end of a container was put
-  pub ended : (l : Layout) (vs us : List (OpenNode N)) (o : Option (OpenNode N)) (a b : Option (List ℕ)) (s t : Outbox) (whole xs : List ℕ) → vs ≡ us ++ option_to_list o → (0 < length vs → IsSome o) → xs ++ behind see l (reverse vs) ≡ whole → 0 < length xs → HasPut a b s t xs
+  pub ended : (l : Layout) (vs us : List (OpenNode N)) (o : Option (OpenNode N)) (a b : Option (List ℕ)) (s t : Outbox) (whole xs : List ℕ) → vs ≡ us ++ option_to_list o → (0 < length vs → IsSome o) → xs ++ following see l (reverse vs) ≡ whole → 0 < length xs → HasPut a b s t xs
       → HasLeft 1 a b s t whole (all_left see l o (reverse us))
   ended l vs us o a b s t whole xs is has all some p =
       prefix-left a b s t whole xs (all_left see l o (reverse us)) (ap (λ (x : List ℕ). xs ++ x) (sym (popped l vs us o is has)) ∙ all) some p
 
   -- the end of a container was put, after the text before it
-  pub ends : (l : Layout) (vs us : List (OpenNode N)) (o : Option (OpenNode N)) (a b c : Option (List ℕ)) (s t u : Outbox) (whole xs ys : List ℕ) → vs ≡ us ++ option_to_list o → (0 < length vs → IsSome o) → xs ++ (ys ++ behind see l (reverse vs)) ≡ whole → 0 < length ys
+  pub ends : (l : Layout) (vs us : List (OpenNode N)) (o : Option (OpenNode N)) (a b c : Option (List ℕ)) (s t u : Outbox) (whole xs ys : List ℕ) → vs ≡ us ++ option_to_list o → (0 < length vs → IsSome o) → xs ++ (ys ++ following see l (reverse vs)) ≡ whole → 0 < length ys
       → HasPut a b s t xs → HasPut b c t u ys → HasLeft 1 a c s u whole (all_left see l o (reverse us))
   ends l vs us o a b c s t u whole xs ys is has all some p q =
-      ended l vs us o a c s u whole (xs ++ ys) is has (append_assoc xs ys (behind see l (reverse vs)) ∙ all) (omega (arith, length-append xs ys)) (puts-then a b c s t u xs ys p q)
+      ended l vs us o a c s u whole (xs ++ ys) is has (append_assoc xs ys (following see l (reverse vs)) ∙ all) (omega (arith, length-append xs ys)) (puts-then a b c s t u xs ys p q)
 
   -- ---- the starts of containers
 

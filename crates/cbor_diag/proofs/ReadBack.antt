@@ -5,7 +5,7 @@ use Rattle.hex.specs.Hex.{encode_lower}
 use Rattle.cbor_head.specs.Value as value
 use Rattle.cbor_head.specs.Prelude.{Value, Values, Entries, IsInRange, AreInRange, AreEntriesInRange}
 use Rattle.cbor_diag.specs.inner.Layout.{gap, end, laid_out, laid_pairs, laid_texts, rows}
-use Rattle.cbor_diag.proofs.Reading.{rest, Pass, Stands, rest-all, first}
+use Rattle.cbor_diag.proofs.Reading.{rest, Pass, FirstFails, rest-all, first}
 use Rattle.cbor_diag.proofs.ReadLeaves.{Begins, Read, begins, blank, bytes-back, closes, closes-pairs, got, negative-back, read, read_members, read_pairs, simple-back, size, size_all, size_entries, tag-back, tag_joined, text-back, unsigned-back, with-key, with-value}
 use Rattle.cbor_diag.specs.{Text.text, Text.escaped, IndentedText.new_line, IndentedText.indented, Follows.Ends, declared.layout.Layout.Layout}
 use Rattle.cbor_diag.specs.declared.layout.Layout.TheVariants.{OneLine, Indented}
@@ -51,7 +51,7 @@ rows-ends l level c (t ∷ ts) xs h =
 
 -- what follows blanks
 skipped : (gs cs : List ℕ) → Pass blank gs → (b : Begins cs) → rest blank (gs ++ cs) ≡ cs
-skipped gs cs h b = rest-all blank gs cs h (subst (Stands blank) (sym b.is) b.no_blank)
+skipped gs cs h b = rest-all blank gs cs h (subst (FirstFails blank) (sym b.is) b.no_blank)
 
 no-more : (k : ℕ) (gs x : List ℕ) → Pass blank gs → read_members (suc k) (gs ++ 93 ∷ x) ≡ (value.no_values, x)
 no-more k gs x h = ap (closes k) (rest-all blank gs (93 ∷ x) h refl)

@@ -5,7 +5,7 @@ use Rattle.hex.specs.Hex.{encode_lower, decode_of, is_hex_digit}
 use Rattle.cbor_head.specs.Value as value
 use Rattle.cbor_head.specs.Prelude.{Value, Values, Entries, IsInRange}
 use Rattle.cbor_diag.specs.inner.Layout.{laid_out, laid_pairs, laid_texts, rows}
-use Rattle.cbor_diag.proofs.Reading.{prefix, rest, Pass, Stands, prefix-all, rest-all, digit, decimals, digit-range, no-digit, decoded, decoded-back, hex-pass, first, unquoted, unquoted-back}
+use Rattle.cbor_diag.proofs.Reading.{prefix, rest, Pass, FirstFails, prefix-all, rest-all, digit, decimals, digit-range, no-digit, decoded, decoded-back, hex-pass, first, unquoted, unquoted-back}
 use Rattle.cbor_diag.specs.{Text.escaped, Text.simple_text, Follows.Ends, declared.layout.Layout.Layout}
 
 abbrev pub Read : Type 0
@@ -23,24 +23,24 @@ blank c = eqb c 44 || (eqb c 32 || eqb c 10)
 abbrev number : List ℕ → ℕ
 number cs = digits_value 10 (prefix digit cs)
 
-abbrev behind : List ℕ → List ℕ
-behind cs = rest digit cs
+abbrev following : List ℕ → List ℕ
+following cs = rest digit cs
 
 -- the values with a name, by their first byte
 abbrev word : ℕ → List ℕ → Read
 word c cs =
     cond (eqb c 34) (let r = unquoted (drop 1 cs) in (value.text r.0, r.1))
-    (cond (eqb c 45) (value.negative (number (drop 1 cs) - 1), behind (drop 1 cs))
+    (cond (eqb c 45) (value.negative (number (drop 1 cs) - 1), following (drop 1 cs))
     (cond (eqb c 104) (value.bytes (decoded (decode_of (prefix is_hex_digit (drop 2 cs)))), drop 1 (rest is_hex_digit (drop 2 cs)))
     (cond (eqb c 102) (value.simple 20, drop 5 cs)
     (cond (eqb c 116) (value.simple 21, drop 4 cs)
     (cond (eqb c 110) (value.simple 22, drop 4 cs)
     (cond (eqb c 117) (value.simple 23, drop 9 cs)
-    (value.simple (number (drop 7 cs)), drop 1 (behind (drop 7 cs)))))))))
+    (value.simple (number (drop 7 cs)), drop 1 (following (drop 7 cs)))))))))
 
 -- a number, or the tag with the content in parentheses
 abbrev numbered : List ℕ → Read → Read
-numbered cs r = cond (eqb (first (behind cs)) 40) (value.tag (number cs) r.0, drop 1 r.1) (value.unsigned (number cs), behind cs)
+numbered cs r = cond (eqb (first (following cs)) 40) (value.tag (number cs) r.0, drop 1 r.1) (value.unsigned (number cs), following cs)
 
 abbrev other : List ℕ → Values × List ℕ → Entries × List ℕ → Read
 other cs a m = cond (eqb (first cs) 91) (value.array a.0, a.1) (cond (eqb (first cs) 123) (value.map m.0, m.1) (word (first cs) cs))
@@ -48,7 +48,7 @@ other cs a m = cond (eqb (first cs) 91) (value.array a.0, a.1) (cond (eqb (first
 abbrev mutual
   pub read : ℕ → List ℕ → Read
   read zero cs = (value.unsigned 0, cs)
-  read (suc k) cs = cond (digit (first cs)) (numbered cs (read k (drop 1 (behind cs)))) (other cs (read_members k (drop 1 cs)) (read_pairs k (drop 1 cs)))
+  read (suc k) cs = cond (digit (first cs)) (numbered cs (read k (drop 1 (following cs)))) (other cs (read_members k (drop 1 cs)) (read_pairs k (drop 1 cs)))
 
   pub read_members : ℕ → List ℕ → Values × List ℕ
   read_members zero cs = (value.no_values, cs)
@@ -162,24 +162,24 @@ begins l level (value.simple n) h xs = simple-begins n xs
 record IsNumber (n : ℕ) (ys : List ℕ) : Type 0 where
   begun : digit (first (decimal n ++ ys)) ≡ true
   number_is : number (decimal n ++ ys) ≡ n
-  behind_is : behind (decimal n ++ ys) ≡ ys
+  following_is : following (decimal n ++ ys) ≡ ys
 
 first-passes : (cs ys : List ℕ) → 0 < length cs → Pass digit cs → digit (first (cs ++ ys)) ≡ true
 first-passes [] ys l h = absurd (omega arith)
 first-passes (c ∷ cs) ys l h = h.0
 
-numeral : (n : ℕ) (ys : List ℕ) → n ≤ 2 ^ 64 → Stands digit ys → IsNumber n ys
+numeral : (n : ℕ) (ys : List ℕ) → n ≤ 2 ^ 64 → FirstFails digit ys → IsNumber n ys
 numeral n ys small h =
     let d = decimals n small in
     record {
       begun = first-passes (decimal n) ys d.some d.pass;
       number_is = ap (digits_value 10) (prefix-all digit (decimal n) ys d.pass h) ∙ d.value;
-      behind_is = rest-all digit (decimal n) ys d.pass h;
+      following_is = rest-all digit (decimal n) ys d.pass h;
     }
 
-ends-stand : (x : List ℕ) → Ends x → Stands digit x
-ends-stand [] h = tt
-ends-stand (c ∷ cs) h = no-digit c h.0
+ends-fail : (x : List ℕ) → Ends x → FirstFails digit x
+ends-fail [] h = tt
+ends-fail (c ∷ cs) h = no-digit c h.0
 
 ends-open : (x : List ℕ) → Ends x → eqb (first x) 40 ≡ false
 ends-open [] h = refl
@@ -188,17 +188,17 @@ ends-open (c ∷ cs) h = ne_eqb c 40 h.1
 pub unsigned-back : (k n : ℕ) (x : List ℕ) → n < 2 ^ 64 → Ends x → read (suc k) (decimal n ++ x) ≡ (value.unsigned n, x)
 unsigned-back k n x small h =
     let cs = decimal n ++ x in
-    let m = numeral n x (omega arith) (ends-stand x h) in
-    cond-true (digit (first cs)) (numbered cs (read k (drop 1 (behind cs)))) (other cs (read_members k (drop 1 cs)) (read_pairs k (drop 1 cs))) m.begun
-    ∙ cond-false {A = Read} (eqb (first (behind cs)) 40) (value.tag (number cs) (read k (drop 1 (behind cs))).0, drop 1 (read k (drop 1 (behind cs))).1) (value.unsigned (number cs), behind cs)
-    (ap (λ (b : List ℕ). eqb (first b) 40) m.behind_is ∙ ends-open x h)
-    ∙ ap (λ (j : ℕ). got (value.unsigned j) (behind cs)) m.number_is ∙ ap (got (value.unsigned n)) m.behind_is
+    let m = numeral n x (omega arith) (ends-fail x h) in
+    cond-true (digit (first cs)) (numbered cs (read k (drop 1 (following cs)))) (other cs (read_members k (drop 1 cs)) (read_pairs k (drop 1 cs))) m.begun
+    ∙ cond-false {A = Read} (eqb (first (following cs)) 40) (value.tag (number cs) (read k (drop 1 (following cs))).0, drop 1 (read k (drop 1 (following cs))).1) (value.unsigned (number cs), following cs)
+    (ap (λ (b : List ℕ). eqb (first b) 40) m.following_is ∙ ends-open x h)
+    ∙ ap (λ (j : ℕ). got (value.unsigned j) (following cs)) m.number_is ∙ ap (got (value.unsigned n)) m.following_is
 
 pub negative-back : (k n : ℕ) (x : List ℕ) → n < 2 ^ 64 → Ends x → read (suc k) (45 ∷ (decimal (n + 1) ++ x)) ≡ (value.negative n, x)
 negative-back k n x small h =
-    let m = numeral (n + 1) x (omega arith) (ends-stand x h) in
+    let m = numeral (n + 1) x (omega arith) (ends-fail x h) in
     let back : number (decimal (n + 1) ++ x) - 1 ≡ n = ap (λ (j : ℕ). j - 1) m.number_is ∙ omega arith in
-    λ i. (value.negative (back i), m.behind_is i)
+    λ i. (value.negative (back i), m.following_is i)
 
 pub bytes-back : (k : ℕ) (bs x : List ℕ) → value.AreBytes bs → read (suc k) (104 ∷ 39 ∷ (encode_lower bs ++ 39 ∷ x)) ≡ (value.bytes bs, x)
 bytes-back k bs x h =
@@ -211,7 +211,7 @@ pub text-back : (k : ℕ) (bs x : List ℕ) → value.AreBytes bs → read (suc 
 text-back k bs x h = let back = unquoted-back bs x h in λ i. (value.text (back i).0, (back i).1)
 
 shown-back : (k n : ℕ) (x : List ℕ) → n < 2 ^ 64 → read (suc k) (codes "simple(" ++ (decimal n ++ 41 ∷ x)) ≡ (value.simple n, x)
-shown-back k n x small = let m = numeral n (41 ∷ x) (omega arith) refl in λ i. (value.simple (m.number_is i), drop 1 (m.behind_is i))
+shown-back k n x small = let m = numeral n (41 ∷ x) (omega arith) refl in λ i. (value.simple (m.number_is i), drop 1 (m.following_is i))
 
 pub simple-back : (k n : ℕ) (x : List ℕ) → n < 2 ^ 64 → read (suc k) (simple_text n ++ x) ≡ (value.simple n, x)
 simple-back k n x small = simple-cases (λ m. read (suc k) (simple_text m ++ x) ≡ (value.simple m, x)) n refl refl refl refl
@@ -222,7 +222,7 @@ tag-back k n v t x small inside =
     let ys = 40 ∷ (t ++ 41 ∷ x) in
     let cs = decimal n ++ ys in
     let m = numeral n ys (omega arith) refl in
-    cond-true (digit (first cs)) (numbered cs (read k (drop 1 (behind cs)))) (other cs (read_members k (drop 1 cs)) (read_pairs k (drop 1 cs))) m.begun
-    ∙ ap (numbered cs) (ap (λ (b : List ℕ). read k (drop 1 b)) m.behind_is ∙ inside)
-    ∙ cond-true {A = Read} (eqb (first (behind cs)) 40) (value.tag (number cs) v, x) (value.unsigned (number cs), behind cs) (ap (λ (b : List ℕ). eqb (first b) 40) m.behind_is)
+    cond-true (digit (first cs)) (numbered cs (read k (drop 1 (following cs)))) (other cs (read_members k (drop 1 cs)) (read_pairs k (drop 1 cs))) m.begun
+    ∙ ap (numbered cs) (ap (λ (b : List ℕ). read k (drop 1 b)) m.following_is ∙ inside)
+    ∙ cond-true {A = Read} (eqb (first (following cs)) 40) (value.tag (number cs) v, x) (value.unsigned (number cs), following cs) (ap (λ (b : List ℕ). eqb (first b) 40) m.following_is)
     ∙ ap (λ (j : ℕ). got (value.tag j v) x) m.number_is

@@ -21,23 +21,23 @@ abbrev pub Pass : (ℕ → Bool) → List ℕ → Type 0
 Pass p xs = AllByRecursion (λ x. p x ≡ true) xs
 
 -- the first byte does not pass
-abbrev pub Stands : (ℕ → Bool) → List ℕ → Type 0
-Stands p [] = Unit {0}
-Stands p (x ∷ xs) = p x ≡ false
+abbrev pub FirstFails : (ℕ → Bool) → List ℕ → Type 0
+FirstFails p [] = Unit {0}
+FirstFails p (x ∷ xs) = p x ≡ false
 
-prefix-none : (p : ℕ → Bool) (ys : List ℕ) → Stands p ys → prefix p ys ≡ []
+prefix-none : (p : ℕ → Bool) (ys : List ℕ) → FirstFails p ys → prefix p ys ≡ []
 prefix-none p [] h = refl
 prefix-none p (y ∷ ys) h = rw h refl
 
-rest-none : (p : ℕ → Bool) (ys : List ℕ) → Stands p ys → rest p ys ≡ ys
+rest-none : (p : ℕ → Bool) (ys : List ℕ) → FirstFails p ys → rest p ys ≡ ys
 rest-none p [] h = refl
 rest-none p (y ∷ ys) h = rw h refl
 
-pub prefix-all : (p : ℕ → Bool) (xs ys : List ℕ) → Pass p xs → Stands p ys → prefix p (xs ++ ys) ≡ xs
+pub prefix-all : (p : ℕ → Bool) (xs ys : List ℕ) → Pass p xs → FirstFails p ys → prefix p (xs ++ ys) ≡ xs
 prefix-all p [] ys a h = prefix-none p ys h
 prefix-all p (x ∷ xs) ys a h = let one = a.0 in rw one (ap (λ (l : List ℕ). x ∷ l) (prefix-all p xs ys a.1 h))
 
-pub rest-all : (p : ℕ → Bool) (xs ys : List ℕ) → Pass p xs → Stands p ys → rest p (xs ++ ys) ≡ ys
+pub rest-all : (p : ℕ → Bool) (xs ys : List ℕ) → Pass p xs → FirstFails p ys → rest p (xs ++ ys) ≡ ys
 rest-all p [] ys a h = rest-none p ys h
 rest-all p (x ∷ xs) ys a h = let one = a.0 in rw one (rest-all p xs ys a.1 h)
 

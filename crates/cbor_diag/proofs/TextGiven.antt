@@ -7,10 +7,10 @@ use Rattle.cbor_head.specs.declared.major.Major.TheVariants as majors
 use Rattle.cbor_head.specs.declared.major.Major.{Major}
 use Rattle.theory_verdicts.specs.Levels.{Level, IsOpened, a_member, a_value, some_member, some_key, some_value, tagged, item_expected, item_full, settle}
 use Rattle.theory_verdicts.{specs.Frame.with_all, specs.Frame.with_entries, specs.Reading.string_value, proofs.Levels.of-opened}
-use Rattle.cbor_parser.specs.Sink.{Reported, IsEndedAs, StandsFull, IsContainerFull, Gives, Opens, Ends, BeginsString, GrowsString, EndsString}
+use Rattle.cbor_parser.specs.Sink.{Reported, IsEndedAs, AgreesAsFull, IsContainerFull, Gives, Opens, Ends, BeginsString, GrowsString, EndsString}
 use Rattle.cbor_diag.specs.Text.{text, texts, pair_texts, joined, escaped}
 use Rattle.cbor_diag.specs.inner.Strings.{opening, content_text, closing, string_text}
-use Rattle.cbor_diag.specs.inner.TextSinks.{opener, closer, an_open, are_none, comma, text_in, open_of, entered_of, before, text_to, inner_in, around_in, IsAt, IsWithin, text_stands, text_holds, Reaches}
+use Rattle.cbor_diag.specs.inner.TextSinks.{opener, closer, an_open, are_none, comma, text_in, open_of, entered_of, before, text_to, inner_in, around_in, IsAt, IsWithin, text_agrees, text_holds, Reaches}
 use Rattle.cbor_diag.specs.{declared.text_sink.Open.Open, declared.text_sink.TextSink.TextSink, inner.Outbox.HasPut}
 use Rattle.cbor_diag.proofs.PieceTexts.{encode-append}
 
@@ -50,8 +50,8 @@ more old new x y given put =
     ap (λ (z : List ℕ). z ++ new.out.now.waiting.items) put.appended ∙ append_assoc had put.took new.out.now.waiting.items ∙ ap (λ (z : List ℕ). had ++ z) put.others
     ∙ sym (append_assoc had old.out.now.waiting.items y) ∙ ap (λ (z : List ℕ). z ++ y) given
 
-behind : (old new : TextSink) (x y z : List ℕ) (inner : Option Open) (around : List Open) → x ++ y ≡ z → IsAt old x inner around → Writes old new y → IsAt new z inner around
-behind old new x y z inner around is at w = record {
+following : (old new : TextSink) (x y z : List ℕ) (inner : Option Open) (around : List Open) → x ++ y ≡ z → IsAt old x inner around → Writes old new y → IsAt new z inner around
+following old new x y z inner around is at w = record {
   given = more old new x y at.given w.put ∙ is;
   innermost = w.innermost ∙ at.innermost;
   around = w.around ∙ at.around;
@@ -104,7 +104,7 @@ value-given g u done k s around at =
     listed g majors.Map u (codes "{") (text (value_of k) ++ codes ": " ++ text (value_of s)) _ ts _ around (pair_texts-more done k s)
     (grouped ((u ++ (codes "{" ++ joined ts)) ++ comma (are_none ts)) (text (value_of k)) (codes ": ") (text (value_of s))) at
 
-pub settles : (start g : TextSink) (vs : List Level) (s : Spelling) → IsWithin g (text_to vs ++ text (value_of s)) vs → text_stands start g (settle vs s)
+pub settles : (start g : TextSink) (vs : List Level) (s : Spelling) → IsWithin g (text_to vs ++ text (value_of s)) vs → text_agrees start g (settle vs s)
 settles start g (a_member w zero done ∷ vs) s at = (_, _, refl, member-given g (text_to vs) done s _ at)
 settles start g (a_member w (suc left) done ∷ vs) s at = member-given g (text_to vs) done s _ at
 settles start g (some_member done ∷ vs) s at = member-given g (text_to vs) done s _ at
@@ -119,27 +119,27 @@ settles start g (tagged w n ∷ vs) s at =
     (prefix ++ x, an_open majors.Tag true, refl, record { given = at.given ∙ is; innermost = at.innermost; around = at.around })
 settles start g _ s at = at
 
-pub given : (k : Bool) (v : Value) (y : List ℕ) (old mid new : TextSink) → Reaches k old mid → text v ≡ y → Writes mid new y → Gives TextSink text_stands k v old new
+pub given : (k : Bool) (v : Value) (y : List ℕ) (old mid new : TextSink) → Reaches k old mid → text v ≡ y → Writes mid new y → Gives TextSink text_agrees k v old new
 given k v y old mid new reaches is wrote start d vs s reported done e =
-    settles start new vs s (behind mid new (text_to vs) y _ _ _ (ap (λ (z : List ℕ). text_to vs ++ z) (sym is ∙ ap text (sym e))) (reaches start vs reported) wrote)
+    settles start new vs s (following mid new (text_to vs) y _ _ _ (ap (λ (z : List ℕ). text_to vs ++ z) (sym is ∙ ap text (sym e))) (reaches start vs reported) wrote)
 
 -- ---- strings in chunks
 
-pub string-begun : (k t : Bool) (old mid new : TextSink) → Reaches k old mid → Writes mid new (opening t) → BeginsString TextSink text_stands text_holds k t old new
+pub string-begun : (k t : Bool) (old mid new : TextSink) → Reaches k old mid → Writes mid new (opening t) → BeginsString TextSink text_agrees text_holds k t old new
 string-begun k t old mid new reaches wrote start vs reported =
-    behind mid new (text_to vs) (opening t) _ _ _ (ap (λ (y : List ℕ). text_to vs ++ y) (no-content t)) (reaches start vs reported) wrote
+    following mid new (text_to vs) (opening t) _ _ _ (ap (λ (y : List ℕ). text_to vs ++ y) (no-content t)) (reaches start vs reported) wrote
 
 pub string-grown : (k t : Bool) (x : List ℕ) (old new : TextSink) → Writes old new (content_text t x) → GrowsString TextSink text_holds k t x old new
 string-grown k t x old new wrote start vs content at reported =
     let grown = in-prefix (text_to vs) (opening t) (content_text t content) (content_text t x) in
-    behind old new _ (content_text t x) _ _ _ (grown ∙ ap (λ (y : List ℕ). text_to vs ++ (opening t ++ y)) (sym (more-content t content x))) at wrote
+    following old new _ (content_text t x) _ _ _ (grown ∙ ap (λ (y : List ℕ). text_to vs ++ (opening t ++ y)) (sym (more-content t content x))) at wrote
 
-pub string-ended : (k t : Bool) (old new : TextSink) → Writes old new (closing t) → EndsString TextSink text_stands text_holds k t old new
+pub string-ended : (k t : Bool) (old new : TextSink) → Writes old new (closing t) → EndsString TextSink text_agrees text_holds k t old new
 string-ended k t old new wrote start d vs content s at reported done e =
     let u = text_to vs in
     let whole = opening t ++ content_text t content in
     let is : string_text t content ≡ text (value_of s) = sym (text-of_string t content) ∙ ap text (sym e) in
-    settles start new vs s (behind old new (u ++ whole) (closing t) _ _ _ (append_assoc u whole (closing t) ∙ ap (λ (y : List ℕ). u ++ y) is) at wrote)
+    settles start new vs s (following old new (u ++ whole) (closing t) _ _ _ (append_assoc u whole (closing t) ∙ ap (λ (y : List ℕ). u ++ y) is) at wrote)
 
 -- ---- containers
 
@@ -147,7 +147,7 @@ level-opened : (u : List ℕ) (m : Major) (i : ℕ) (v : Level) → IsOpened m i
 level-opened u = of-opened (λ m i v. (u ++ opener m i ≡ text_in u v) × (an_open m true ≡ open_of v)) (λ w left i. (refl, refl)) (λ i. (refl, refl)) (λ w left i. (refl, refl)) (λ i. (refl, refl)) (λ w i. (refl, refl))
 
 pub opened : (k : Bool) (m : Major) (i : ℕ) (old mid new : TextSink) → Reaches k old mid → HasPut (Some mid.shown.now.items) (Some new.shown.now.items) mid.out.now new.out.now (opener m i)
-    → new.inner ≡ Some (an_open m true) → new.around.items ≡ mid.around.items ++ option_to_list mid.inner → Opens TextSink text_stands k m i old new
+    → new.inner ≡ Some (an_open m true) → new.around.items ≡ mid.around.items ++ option_to_list mid.inner → Opens TextSink text_agrees k m i old new
 opened k m i old mid new reaches put inner around start vs v reported is =
     let at = reaches start vs reported in
     let same = level-opened (text_to vs) m i v is in
@@ -157,16 +157,16 @@ opened k m i old mid new reaches put inner around start vs v reported is =
       around = around ∙ ap₂ (λ (os : List Open) (o : Option Open). os ++ option_to_list o) at.around at.innermost;
     }
 
-indefinite : (start g : TextSink) (vs : List Level) (v : Level) (s : Spelling) → IsEndedAs v s → text_stands start g (item_expected (v ∷ vs)) → text_stands start g (item_full vs s)
+indefinite : (start g : TextSink) (vs : List Level) (v : Level) (s : Spelling) → IsEndedAs v s → text_agrees start g (item_expected (v ∷ vs)) → text_agrees start g (item_full vs s)
 indefinite start g vs (some_member done) (array w ss) ended at = (_, _, ap (λ (x : Spellings). text (value_of (array w x))) (sym ended), at)
 indefinite start g vs (some_key done) (a_map w es) ended at = (_, _, ap (λ (x : SpelledEntries). text (value_of (a_map w x))) (sym ended), at)
 indefinite start g vs v s ended at = absurd ended
 
-full-at : (k : Bool) (d : ℕ) (start g : TextSink) (vs : List Level) (s : Spelling) → StandsFull TextSink (Reported TextSink text_stands k) d start g vs s → text_stands start g (item_full vs s)
+full-at : (k : Bool) (d : ℕ) (start g : TextSink) (vs : List Level) (s : Spelling) → AgreesAsFull TextSink (Reported TextSink text_agrees k) d start g vs s → text_agrees start g (item_full vs s)
 full-at k d start g vs s (inl at) = at.0
 full-at k d start g vs s (inr (v, ended, levels, at)) = indefinite start g vs v s ended at.0
 
-pub some-open : (t k : Bool) (g : TextSink) → IsContainerFull TextSink text_stands t k g → ((o : Open) → g.inner ≡ Some o → ⊥) → ⊥
+pub some-open : (t k : Bool) (g : TextSink) → IsContainerFull TextSink text_agrees t k g → ((o : Open) → g.inner ≡ Some o → ⊥) → ⊥
 some-open t k g (start, d, vs, s, fills, full) none = let at = full-at k d start g vs s full in none at.1 at.3.innermost
 
 -- then the container around it is the innermost, if there is one
@@ -177,7 +177,7 @@ popped (v ∷ vs) around new None are is some = let n = ap length are in absurd 
 popped (v ∷ vs) around new (Some x) are is some = let e = same_from_push new _ x _ (sym is ∙ are) in (ap Some e.1, e.0)
 
 pub ended : (k : Bool) (o : Open) (old new : TextSink) → old.inner ≡ Some o → HasPut (Some old.shown.now.items) (Some new.shown.now.items) old.out.now new.out.now (closer o.major)
-    → old.around.items ≡ new.around.items ++ option_to_list new.inner → (0 < length old.around.items → IsSome new.inner) → Ends TextSink text_stands true k old new
+    → old.around.items ≡ new.around.items ++ option_to_list new.inner → (0 < length old.around.items → IsSome new.inner) → Ends TextSink text_agrees true k old new
 ended k o old new inner put around some start d vs s fills stood =
     let full = full-at k d start old vs s stood in
     let t = full.0 in

@@ -8,7 +8,7 @@ ghost use Rattle.theory_verdicts.specs.Levels.{item_expected, item_whole};
 ghost use Rattle.cbor_parser.specs.Sink.{leaf_value};
 ghost use Rattle.cbor_diag.specs.inner.Outbox.{Puts};
 ghost use Rattle.cbor_diag.specs.inner.TextSinks.{opener, closer, Reaches};
-ghost use Rattle.cbor_diag.specs.inner.TextSinks.{text_stands, text_holds};
+ghost use Rattle.cbor_diag.specs.inner.TextSinks.{text_agrees, text_holds};
 ghost use Rattle.cbor_diag.specs.Text.{text};
 
 use crate::outbox::{Outbox, Stopped};
@@ -45,7 +45,7 @@ impl<'o> TextSink<'o> {
     pub(crate) fn new(alloc: Global, shown: &'o mut Vec<u8>, out: &'o mut Outbox) -> TextSink<'o>
         requires shown { shown.old.items ≡ [] }
         requires out { out.old.waiting.items ≡ [] }
-        ensures { text_stands result result (item_expected []) }
+        ensures { text_agrees result result (item_expected []) }
     {
         TextSink {
             inner: None,
@@ -58,7 +58,7 @@ impl<'o> TextSink<'o> {
     // Returns the text of the item, which must be whole. A short text is only in the outbox.
     pub(crate) fn finish(self) -> Result<&'o [u8], AllocError>
         ensures { IfOk result (λ shown. (s : Spelling)
-            → text_stands self.entry self.entry (item_whole s) → shown.now ≡ text (value_of s)) }
+            → text_agrees self.entry self.entry (item_whole s) → shown.now ≡ text (value_of s)) }
     {
         let TextSink {
             inner: _,
@@ -97,7 +97,7 @@ impl<'o> TextSink<'o> {
 }
 
 impl<'a, 'o> Sink<'a> for TextSink<'o> {
-    ghost stands = { text_stands };
+    ghost agrees = { text_agrees };
 
     ghost holds = { text_holds };
 

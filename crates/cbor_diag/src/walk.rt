@@ -5,7 +5,7 @@ ghost use Rattle.std.specs.Prelude.{option_to_list};
 ghost use Rattle.cbor_head.specs.Value.{depth};
 ghost use Rattle.cbor_diag.specs.inner.Layout.{laid_out};
 ghost use Rattle.cbor_diag.specs.inner.Levels.{AreShallow, AreAllShallow, IsExpected, IsOpenOf};
-ghost use Rattle.cbor_diag.specs.inner.Levels.{Leaves, behind, rest_of};
+ghost use Rattle.cbor_diag.specs.inner.Levels.{Leaves, following, rest_of};
 ghost use Rattle.cbor_diag.specs.inner.Outbox.{Puts};
 
 use crate::layout::{Layout, put_end, put_gap};
@@ -93,7 +93,7 @@ fn put_deeper<'a, N: Node, W: Write>(
     requires few { length around.now ≤ SOME }
     requires shallow { AreShallow N.value (level ∷ reverse around.now) }
     ensures { Puts (W.contents writer.old) (W.contents writer.new) out.old out.new
-        (rest_of N.value layout level.entry ++ behind N.value layout (reverse around.now)) result }
+        (rest_of N.value layout level.entry ++ following N.value layout (reverse around.now)) result }
 {
     let mut cells = [OpenNode::default(); SOME];
     lend(around, &mut cells);
@@ -115,7 +115,7 @@ fn put_deepest<'a, N: Node, W: Write>(
     requires few { length around.now ≤ MOST }
     requires shallow { AreShallow N.value (level ∷ reverse around.now) }
     ensures { Puts (W.contents writer.old) (W.contents writer.new) out.old out.new
-        (rest_of N.value layout level.entry ++ behind N.value layout (reverse around.now)) result }
+        (rest_of N.value layout level.entry ++ following N.value layout (reverse around.now)) result }
 {
     let mut cells = [OpenNode::default(); MOST];
     lend(around, &mut cells);
@@ -146,7 +146,7 @@ fn put_within<'a, N: Node, W: Write>(
     requires shallow { AreShallow N.value (level ∷ reverse (take height cells.old)) }
     ensures put { Leaves 0 N.value layout (W.contents writer.old) (W.contents writer.new)
         out.old out.new (rest_of N.value layout level.entry
-        ++ behind N.value layout (reverse (take height cells.old))) (reverse cells.new) result }
+        ++ following N.value layout (reverse (take height cells.old))) (reverse cells.new) result }
     ensures shallow { IfOk result (λ inner. AreAllShallow N.value inner (reverse cells.new)) }
 {
     let mut innermost = Some(level);
@@ -226,7 +226,7 @@ fn go_on<'a, N: Node, W: Write>(
     ensures height { height.new ≤ length cells.new }
     ensures put { Leaves 1 N.value layout (W.contents writer.old) (W.contents writer.new)
         out.old out.new (rest_of N.value layout level.entry
-        ++ behind N.value layout (reverse (take height.old cells.old))) (reverse (take height.new cells.new)) result }
+        ++ following N.value layout (reverse (take height.old cells.old))) (reverse (take height.new cells.new)) result }
     ensures shallow { IfOk result
         (λ inner. AreAllShallow N.value inner (reverse (take height.new cells.new))) }
 {
@@ -294,7 +294,7 @@ fn go_into<'a, N: Node, W: Write>(
     ensures height { height.new ≤ length cells.new }
     ensures put { Leaves 1 N.value layout (W.contents writer.old) (W.contents writer.new)
         out.old out.new (laid_out layout indent (N.value item.now)
-        ++ (rest_of N.value layout level.entry ++ behind N.value layout (reverse (take height.old cells.old))))
+        ++ (rest_of N.value layout level.entry ++ following N.value layout (reverse (take height.old cells.old))))
         (reverse (take height.new cells.new)) result }
     ensures shallow { IfOk result
         (λ inner. AreAllShallow N.value inner (reverse (take height.new cells.new))) }

@@ -14,13 +14,13 @@ use Rattle.theory_automaton.{specs.Trace.Mark, specs.Marks.count_of, specs.Bytes
 use Rattle.theory_automaton.proofs.{Runs.run-on, Taking.IsClear, Events.no-silent-break}
 use Rattle.cbor_machine.specs.State.{state_of, wanted_at, is_done}
 use Rattle.cbor_machine.specs.declared.position.Position.TheVariants as positions
-use Rattle.cbor_machine.specs.Machine.{StandsFor, KeepsLimits, IsComplete, IsGiven, wanted, wanted_within}
-use Rattle.cbor_machine.specs.NextEvent.{ItemEventsView, StandsBetween, IfReported, IsNext, machine_call, call}
+use Rattle.cbor_machine.specs.Machine.{Represents, KeepsLimits, IsComplete, IsGiven, wanted, wanted_within}
+use Rattle.cbor_machine.specs.NextEvent.{ItemEventsView, AgreesBetween, IfReported, IsNext, machine_call, call}
 use Rattle.cbor_machine.specs.Steps.{Ran, Stopped as HasRefused}
 use Rattle.cbor_machine.specs.NextKey.{IsBasicKind, IsOtherKey, IsNextKey}
 use Rattle.cbor_machine.specs.{declared.position.Position.Position, MachineView.MachineView, Calls.HasRead}
-use Rattle.cbor_machine.proofs.{Buffers.head-answer, Buffers.refused-call, NextEvents.run-rest, NextEvents.whole-clear}
-use Rattle.cbor_events.specs.inner.Reads.{IsPartTaken, IsPartRead, HasTaken, HasStopped, IfGiven, HasFirst, IsFirstAnswer, IsTakenAt}
+use Rattle.cbor_machine.proofs.{Buffers.head-outcome, Buffers.refused-call, NextEvents.run-rest, NextEvents.whole-clear}
+use Rattle.cbor_events.specs.inner.Reads.{IsPartTaken, IsPartRead, HasTaken, HasStopped, IfGiven, HasFirst, IsFirstResult, IsTakenAt}
 use Rattle.cbor_events.specs.declared.part.PartialEvent.TheVariants.{Reported, Open, Stopped}
 use Rattle.cbor_events.specs.declared.part.PartialEvent.{PartialEvent}
 
@@ -75,33 +75,33 @@ basic-kind ms w (kinds.Simple n) b y small h k = no-simple w n b y small h k
 basic-kind ms w _ b y small h k = tt
 
 -- an event after what was reported, which begins with this byte
-pub given-kind : (e : Event) (old new : MachineView) (t bs : List ℕ) (ms : List Mark) (b : ℕ) → b < 256 → StandsBetween old t ms → IsGiven e new (t ++ b ∷ []) bs ms → IsBasicFirst b → IsBasicKind e.kind
+pub given-kind : (e : Event) (old new : MachineView) (t bs : List ℕ) (ms : List Mark) (b : ℕ) → b < 256 → AgreesBetween old t ms → IsGiven e new (t ++ b ∷ []) bs ms → IsBasicFirst b → IsBasicKind e.kind
 given-kind e old new t bs ms b small h g k =
-    let here : drop e.place ((t ++ b ∷ []) ++ bs) ≡ b ∷ bs = ap (λ (n : ℕ). drop n ((t ++ b ∷ []) ++ bs)) (g.place ∙ h.whole) ∙ behind t in
+    let here : drop e.place ((t ++ b ∷ []) ++ bs) ≡ b ∷ bs = ap (λ (n : ℕ). drop n ((t ++ b ∷ []) ++ bs)) (g.place ∙ h.whole) ∙ following t in
     basic-kind ms e.width e.kind b bs small (subst (IsEventBytes ms e.width e.kind) here g.bytes) k
   where
-    behind : (t : List ℕ) → drop (length t) ((t ++ b ∷ []) ++ bs) ≡ b ∷ bs
-    behind [] = refl
-    behind (x ∷ xs) = behind xs
+    following : (t : List ℕ) → drop (length t) ((t ++ b ∷ []) ++ bs) ≡ b ∷ bs
+    following [] = refl
+    following (x ∷ xs) = following xs
 
-pub reported-kind : (e : Event) (old new : MachineView) (t : List ℕ) (ms : List Mark) (b : ℕ) → b < 256 → StandsBetween old t ms → IsGiven e new t (b ∷ []) ms → IsBasicFirst b → IsBasicKind e.kind
+pub reported-kind : (e : Event) (old new : MachineView) (t : List ℕ) (ms : List Mark) (b : ℕ) → b < 256 → AgreesBetween old t ms → IsGiven e new t (b ∷ []) ms → IsBasicFirst b → IsBasicKind e.kind
 reported-kind e old new t ms b small h g k =
     let here : drop e.place (t ++ b ∷ []) ≡ b ∷ [] = ap (λ (n : ℕ). drop n (t ++ b ∷ [])) (g.place ∙ h.whole) ∙ drop-append_seam t (b ∷ []) in
     basic-kind ms e.width e.kind b [] small (subst (IsEventBytes ms e.width e.kind) here g.bytes) k
 
 -- ---- a break reports something, or is refused
 
-module _ (old : MachineView) (t : List ℕ) (ms : List Mark) (h : StandsBetween old t ms) where
+module _ (old : MachineView) (t : List ℕ) (ms : List Mark) (h : AgreesBetween old t ms) where
   clear-here : IsClear (state_of old.inner.position old.inner.frames)
-  clear-here = whole-clear old.depth t (state_of old.inner.position old.inner.frames) ms h.stands.inner.ran h.whole
+  clear-here = whole-clear old.depth t (state_of old.inner.position old.inner.frames) ms h.agrees.inner.ran h.whole
 
-  open-item : (new : MachineView) (b : ℕ) → new.depth ≡ old.depth → StandsFor new (t ++ b ∷ []) ms → b ≢ 0xff
+  open-item : (new : MachineView) (b : ℕ) → new.depth ≡ old.depth → Represents new (t ++ b ∷ []) ms → b ≢ 0xff
   open-item new b depth s e =
       let q = state_of old.inner.position old.inner.frames in
       let u = state_of new.inner.position new.inner.frames in
       let there : run old.depth start (t ++ b ∷ []) ≡ reached u (ms ++ []) =
       subst (λ (d : ℕ). run d start (t ++ b ∷ []) ≡ reached u ms) depth s.inner.ran ∙ ap (reached u) (sym (append-nil ms)) in
-      let one = run-rest old.depth t (b ∷ []) q u ms [] h.stands.inner.ran there in
+      let one = run-rest old.depth t (b ∷ []) q u ms [] h.agrees.inner.ran there in
       no-silent-break old.depth q u clear-here (subst (λ (x : ℕ). run old.depth q (x ∷ []) ≡ reached u []) e one)
 
   ran-item : (new : MachineView) (b : ℕ) → Ran old new (b ∷ []) [] → b ≢ 0xff
@@ -112,10 +112,10 @@ module _ (old : MachineView) (t : List ℕ) (ms : List Mark) (h : StandsBetween 
 
 -- ---- one read of one byte
 
-pub first-answer : (p : PartialEvent) (from to : Option (List ℕ)) (old new : MachineView) (kept buffer t : List ℕ) (ms : List Mark) → old.in_payload ≡ false → IsPartRead p old new from to kept buffer t ms → IsFirstAnswer p (machine_call old new from to kept kept t ms)
-first-answer (Reported e) from to old new kept buffer t ms none h = head-answer (Ok (Some e)) from to old new kept buffer t ms none h
-first-answer Open from to old new kept buffer t ms none h = tt
-first-answer (Stopped f) from to old new kept buffer t ms none h = h
+pub first-outcome : (p : PartialEvent) (from to : Option (List ℕ)) (old new : MachineView) (kept buffer t : List ℕ) (ms : List Mark) → old.in_payload ≡ false → IsPartRead p old new from to kept buffer t ms → IsFirstResult p (machine_call old new from to kept kept t ms)
+first-outcome (Reported e) from to old new kept buffer t ms none h = head-outcome (Ok (Some e)) from to old new kept buffer t ms none h
+first-outcome Open from to old new kept buffer t ms none h = tt
+first-outcome (Stopped f) from to old new kept buffer t ms none h = h
 
 pub first-lost : (p : PartialEvent) (from to : Option (List ℕ)) (old new : MachineView) (buffer t : List ℕ) (ms : List Mark) → HasTaken p old new 1 from to buffer t ms ⊎ HasStopped p old → HasFirst p old new from to (slice_index_or buffer 0 0) t ms ⊎ HasStopped p old
 first-lost p from to old new buffer t ms (inr h) = inr h
@@ -142,13 +142,13 @@ basic-held held to b c k x rest e = subst (λ (n : ℕ). IsTrue (is_basic (n / 3
 
 -- a call after whose first byte the head continues
 pub first-read : (old mid : MachineView) (from to : Option (List ℕ)) (b : ℕ) (t : List ℕ) (ms : List Mark) → HasFirst Open old mid from to b t ms ⊎ HasStopped Open old → HasRead from to mid t ms
-first-read old mid from to b t ms (inl k) = record { bytes = b ∷ []; consumed = k.consumed; stands = k.taken }
+first-read old mid from to b t ms (inl k) = record { bytes = b ∷ []; consumed = k.consumed; agrees = k.taken }
 first-read old mid from to b t ms (inr s) = absurd s
 
 -- ---- what is returned
 
 -- no byte is expected
-pub end-key : (r : Result (Option Event) Refusal) (m new : MachineView) (from to : Option (List ℕ)) (kept t : List ℕ) (ms : List Mark) → StandsBetween m t ms → wanted m ≡ 0 → KeepsLimits m new → IfReported r (λ e. ⊥)
+pub end-key : (r : Result (Option Event) Refusal) (m new : MachineView) (from to : Option (List ℕ)) (kept t : List ℕ) (ms : List Mark) → AgreesBetween m t ms → wanted m ≡ 0 → KeepsLimits m new → IfReported r (λ e. ⊥)
     → IsNext r (machine_call m new from to kept kept t ms) → IsNextKey r (machine_call m new from to kept kept t ms)
 end-key (Ok (Some e)) m new from to kept t ms h none l reported n = absurd reported
 end-key (Ok None) m new from to kept t ms h none l reported n = n
@@ -156,10 +156,10 @@ end-key (Err f) m new from to kept t ms h none l reported n =
     let full : m.bytes ≤ length t = at-limit in
     inl (
       n,
-      λ behind. absurd (elim n.1 [
+      λ following. absurd (elim n.1 [
         | inl c ↦ omega (arith, full, c.short, l.bytes, length-append t c.bytes)
-        | inr (inl c) ↦ omega (arith, full, behind, ap (λ (x : Refusal). x.place) c.is, l.bytes)
-        | inr (inr c) ↦ let most = c.stands.limited in omega (arith, full, behind, ap (λ (x : Refusal). x.place) c.is, most, l.bytes)
+        | inr (inl c) ↦ omega (arith, full, following, ap (λ (x : Refusal). x.place) c.is, l.bytes)
+        | inr (inr c) ↦ let most = c.agrees.limited in omega (arith, full, following, ap (λ (x : Refusal). x.place) c.is, most, l.bytes)
       ]),
     )
   where
@@ -173,14 +173,14 @@ end-key (Err f) m new from to kept t ms h none l reported n =
 
     at-limit : m.bytes ≤ length t
     at-limit =
-        let shown = h.stands.inner.shown in
-        let live = h.stands.live in
+        let shown = h.agrees.inner.shown in
+        let live = h.agrees.live in
         let expected : 0 < m.expected = omega (arith, shown.expected, some-expected m.inner.position (λ d. n.0 (shown.complete ∙ d, live))) in
         let least : min (m.bytes - m.taken) m.expected ≡ 0 = ap (λ (r : Option Refusal). wanted_within r (min (m.bytes - m.taken) m.expected)) (sym live) ∙ none in
-        omega (arith, least, expected, h.stands.taken)
+        omega (arith, least, expected, h.agrees.taken)
 
 -- a key of another kind
-pub other-here : (p : PartialEvent) (f : Refusal) (old new : MachineView) (from to : Option (List ℕ)) (b : ℕ) (kept t : List ℕ) (ms : List Mark) → StandsBetween old t ms → HasFirst p old new from to b t ms ⊎ HasStopped p old → IsTakenAt p old.taken → ¬ IsTrue (is_basic (b / 32)) → b ≢ 0xff
+pub other-here : (p : PartialEvent) (f : Refusal) (old new : MachineView) (from to : Option (List ℕ)) (b : ℕ) (kept t : List ℕ) (ms : List Mark) → AgreesBetween old t ms → HasFirst p old new from to b t ms ⊎ HasStopped p old → IsTakenAt p old.taken → ¬ IsTrue (is_basic (b / 32)) → b ≢ 0xff
     → new.depth ≡ old.depth → ¬ IsComplete old → f ≡ refusal KeyKind old.taken new.taken → IsOtherKey f (machine_call old new from to kept kept t ms)
 other-here (Stopped r) f old new from to b kept t ms h (inr s) at other item depth going is = absurd (omega (arith, s, at))
 other-here (Reported e) f old new from to b kept t ms h (inr s) at other item depth going is = absurd s
@@ -195,14 +195,14 @@ other-here p f old new from to b kept t ms h (inl k) at other item depth going i
       other = other;
       item = item;
       follows = g.1;
-      is = is ∙ ap (λ (n : ℕ). refusal KeyKind n new.taken) h.stands.taken ∙ ap (refusal KeyKind (length t)) g.0;
+      is = is ∙ ap (λ (n : ℕ). refusal KeyKind n new.taken) h.agrees.taken ∙ ap (refusal KeyKind (length t)) g.0;
     }
   where
     plus : length (t ++ b ∷ []) ≡ length t + 1
     plus = length-append t (b ∷ [])
 
     took : (p : PartialEvent) → IsPartTaken p old new t (b ∷ []) ms → IsTakenAt p old.taken → (new.taken ≡ length t + 1) × MayFollow new.depth t b
-    took (Reported e) g at = (g.stands.taken ∙ plus, g.stands.beginning)
+    took (Reported e) g at = (g.agrees.taken ∙ plus, g.agrees.beginning)
     took Open g at = (g.taken ∙ plus, g.beginning)
     took (Stopped r) g at = step g.1.1
       where
@@ -210,40 +210,40 @@ other-here p f old new from to b kept t ms h (inl k) at other item depth going i
         step (inl x) =
             let q = state_of old.inner.position old.inner.frames in
             let u = state_of new.inner.position new.inner.frames in
-            let ran = run-on old.depth t (b ∷ []) q u ms [] h.stands.inner.ran x.0.ran in (
-              x.0.taken ∙ ap (λ (n : ℕ). n + 1) h.stands.taken,
-              subst (λ (d : ℕ). MayFollow d t b) (sym depth) (reached-begins old.depth (t ++ b ∷ []) u (ms ++ []) (bytes_join t (b ∷ []) h.stands.are_bytes k.are_bytes) ran),
+            let ran = run-on old.depth t (b ∷ []) q u ms [] h.agrees.inner.ran x.0.ran in (
+              x.0.taken ∙ ap (λ (n : ℕ). n + 1) h.agrees.taken,
+              subst (λ (d : ℕ). MayFollow d t b) (sym depth) (reached-begins old.depth (t ++ b ∷ []) u (ms ++ []) (bytes_join t (b ∷ []) h.agrees.are_bytes k.are_bytes) ran),
             )
         step (inr x) = absurd (omega (arith, at, ap (λ (y : Refusal). y.place) x.is, ap length x.splits, length-append x.prefix (x.byte ∷ [])))
 
 -- an event of one byte
-pub reported-key : (e : Event) (old new : MachineView) (from to : Option (List ℕ)) (b : ℕ) (kept t : List ℕ) (ms : List Mark) → StandsBetween old t ms → HasFirst (Reported e) old new from to b t ms ⊎ HasStopped (Reported e) old → IsBasicFirst b
+pub reported-key : (e : Event) (old new : MachineView) (from to : Option (List ℕ)) (b : ℕ) (kept t : List ℕ) (ms : List Mark) → AgreesBetween old t ms → HasFirst (Reported e) old new from to b t ms ⊎ HasStopped (Reported e) old → IsBasicFirst b
     → IsNext (Ok (Some e)) (machine_call old new from to kept kept t ms) → IsNextKey (Ok (Some e)) (machine_call old new from to kept kept t ms)
 reported-key e old new from to b kept t ms h (inr s) basic n = absurd s
 reported-key e old new from to b kept t ms h (inl k) basic n = (n, reported-kind e old new t ms b k.are_bytes.0 h k.taken basic)
 
 -- the byte was refused, or there was none, or the limit is reached after it
-pub stopped-key : (f : Refusal) (old new : MachineView) (from to : Option (List ℕ)) (b : ℕ) (kept t : List ℕ) (ms : List Mark) → StandsBetween old t ms → HasFirst (Stopped f) old new from to b t ms ⊎ HasStopped (Stopped f) old → (IsTakenAt (Stopped f) old.taken → IsBasicFirst b)
+pub stopped-key : (f : Refusal) (old new : MachineView) (from to : Option (List ℕ)) (b : ℕ) (kept t : List ℕ) (ms : List Mark) → AgreesBetween old t ms → HasFirst (Stopped f) old new from to b t ms ⊎ HasStopped (Stopped f) old → (IsTakenAt (Stopped f) old.taken → IsBasicFirst b)
     → IsNext (Err f) (machine_call old new from to kept kept t ms) → IsNextKey (Err f) (machine_call old new from to kept kept t ms)
-stopped-key f old new from to b kept t ms h (inr s) basic n = let taken = h.stands.taken in inl (n, λ behind. absurd (omega (arith, s, behind, taken)))
+stopped-key f old new from to b kept t ms h (inr s) basic n = let taken = h.agrees.taken in inl (n, λ following. absurd (omega (arith, s, following, taken)))
 stopped-key f old new from to b kept t ms h (inl k) basic n =
-    let taken = h.stands.taken in
+    let taken = h.agrees.taken in
     inl (
       n,
-      λ behind. elim (basic (omega (arith, behind, taken))) [
+      λ following. elim (basic (omega (arith, following, taken))) [
         | inl y ↦ basic-held from to b k.consumed y
-        | inr y ↦ absurd (elim k.taken.1.1 [ inl x ↦ ran-item old t ms h new b x.0 y | inr x ↦ omega (arith, behind, taken, ap (λ (z : Refusal). z.place) x.is, ap length x.splits, length-append x.prefix (x.byte ∷ [])) ])
+        | inr y ↦ absurd (elim k.taken.1.1 [ inl x ↦ ran-item old t ms h new b x.0 y | inr x ↦ omega (arith, following, taken, ap (λ (z : Refusal). z.place) x.is, ap length x.splits, length-append x.prefix (x.byte ∷ [])) ])
       ],
     )
 
 -- the head continues
-pub open-key : (r : Result (Option Event) Refusal) (old mid new : MachineView) (from mid_from to : Option (List ℕ)) (b : ℕ) (kept t : List ℕ) (ms : List Mark) → StandsBetween old t ms → mid.depth ≡ old.depth → HasFirst Open old mid from mid_from b t ms ⊎ HasStopped Open old → IsBasicFirst b
-    → (StandsFor mid (t ++ b ∷ []) ms → IfGiven r new (t ++ b ∷ []) ms) → IsNext r (machine_call old new from to kept kept t ms) → IsNextKey r (machine_call old new from to kept kept t ms)
+pub open-key : (r : Result (Option Event) Refusal) (old mid new : MachineView) (from mid_from to : Option (List ℕ)) (b : ℕ) (kept t : List ℕ) (ms : List Mark) → AgreesBetween old t ms → mid.depth ≡ old.depth → HasFirst Open old mid from mid_from b t ms ⊎ HasStopped Open old → IsBasicFirst b
+    → (Represents mid (t ++ b ∷ []) ms → IfGiven r new (t ++ b ∷ []) ms) → IsNext r (machine_call old new from to kept kept t ms) → IsNextKey r (machine_call old new from to kept kept t ms)
 open-key r old mid new from mid_from to b kept t ms h depth (inr s) basic given n = absurd s
 open-key (Ok (Some e)) old mid new from mid_from to b kept t ms h depth (inl k) basic given n = let g = given k.taken in (n, given-kind e old new t g.0 ms b k.are_bytes.0 h g.1 basic)
 open-key (Ok None) old mid new from mid_from to b kept t ms h depth (inl k) basic given n = n
 open-key (Err f) old mid new from mid_from to b kept t ms h depth (inl k) basic given n =
-    inl (n, λ behind. elim basic [ inl y ↦ basic-held from mid_from b k.consumed y | inr y ↦ absurd (open-item old t ms h mid b depth k.taken y) ])
+    inl (n, λ following. elim basic [ inl y ↦ basic-held from mid_from b k.consumed y | inr y ↦ absurd (open-item old t ms h mid b depth k.taken y) ])
 
 -- as in the view of the events
 pub refused-key : (f : Refusal) (from same to : ItemEventsView) (held left : Option (List ℕ)) (piece t : List ℕ) (ms : List Mark) → from ≡ same

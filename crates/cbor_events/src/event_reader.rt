@@ -6,7 +6,7 @@ ghost use Rattle.theory_automaton.specs.Trace.{Mark};
 ghost use Rattle.theory_automaton.specs.Marks.{IsProper};
 ghost use Rattle.theory_automaton.specs.Reasons.{IsEventReason};
 ghost use Rattle.cbor_machine.specs.Machine.{KeepsLimits, IsIdle};
-ghost use Rattle.cbor_machine.specs.NextEvent.{StandsBetween, IfReported, IsNext, call};
+ghost use Rattle.cbor_machine.specs.NextEvent.{AgreesBetween, IfReported, IsNext, call};
 ghost use Rattle.cbor_events.specs.EventReader.{EventReaderView};
 
 use crate::item_events::ItemEvents;
@@ -32,7 +32,7 @@ impl<R> Model for EventReader<R> {
 impl<R: Read> EventReader<R> {
     /// The events of the reader's next item. Its maps may have keys of any kind.
     pub fn new(reader: R, limits: Limits) -> EventReader<R>
-        ensures starts { StandsBetween result.events.machine [] [] }
+        ensures starts { AgreesBetween result.events.machine [] [] }
         ensures limits { (result.events.machine.depth ≡ limits.depth)
             × (result.events.machine.bytes ≡ limits.bytes) }
         ensures piece { result.events.piece ≡ [] }
@@ -51,8 +51,8 @@ impl<R: Read> EventReader<R> {
     /// [`ItemEvents::next`] says what is read, and when.
     pub fn next(&mut self) -> Result<Option<Event>, Refusal>
         // For all bytes and marks that the machine represented, as long as nothing was refused.
-        ensures answers { self.old.events.refusal ≡ None
-            → (t : List ℕ) (ms : List Mark) → StandsBetween self.old.events.machine t ms
+        ensures returned { self.old.events.refusal ≡ None
+            → (t : List ℕ) (ms : List Mark) → AgreesBetween self.old.events.machine t ms
             → IsNext result (call self.old.events self.new.events
             (R.remaining self.old.reader) (R.remaining self.new.reader) t ms) }
         ensures limits { KeepsLimits self.old.events.machine self.new.events.machine }

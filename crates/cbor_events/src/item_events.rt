@@ -6,7 +6,7 @@ ghost use Rattle.theory_automaton.specs.Trace.{Mark};
 ghost use Rattle.theory_automaton.specs.Marks.{IsProper};
 ghost use Rattle.theory_automaton.specs.Reasons.{IsEventReason};
 ghost use Rattle.cbor_machine.specs.Machine.{KeepsLimits, IsIdle, wanted};
-ghost use Rattle.cbor_machine.specs.NextEvent.{ItemEventsView, StandsBetween, IfReported, IsNext};
+ghost use Rattle.cbor_machine.specs.NextEvent.{ItemEventsView, AgreesBetween, IfReported, IsNext};
 ghost use Rattle.cbor_machine.specs.NextEvent.{call};
 ghost use Rattle.cbor_machine.specs.NextKey.{IsKeyReason, IsNextOf};
 
@@ -57,7 +57,7 @@ impl ItemEvents {
     /// The events of an item whose first byte was not read yet. The caller decides which kinds of
     /// keys its maps may have, by calling `next_by_kind`.
     pub fn new(limits: Limits) -> ItemEvents
-        ensures starts { StandsBetween result.machine [] [] }
+        ensures starts { AgreesBetween result.machine [] [] }
         ensures limits { (result.machine.depth ≡ limits.depth)
             × (result.machine.bytes ≡ limits.bytes) }
         ensures piece { result.piece ≡ [] }
@@ -73,7 +73,7 @@ impl ItemEvents {
 
     /// Begins the events of another item within the same limits, in whatever state this is.
     pub fn restart(&mut self)
-        ensures starts { StandsBetween self.new.machine [] [] }
+        ensures starts { AgreesBetween self.new.machine [] [] }
         ensures limits { KeepsLimits self.old.machine self.new.machine }
         ensures piece { self.new.piece ≡ [] }
         ensures live { self.new.refusal ≡ None }
@@ -93,8 +93,8 @@ impl ItemEvents {
     #[inline(always)]
     pub fn next<R: Read>(&mut self, reader: &mut R) -> Result<Option<Event>, Refusal>
         // For all bytes and marks that the machine represented, as long as nothing was refused.
-        ensures answers { self.old.refusal ≡ None
-            → (t : List ℕ) (ms : List Mark) → StandsBetween self.old.machine t ms
+        ensures returned { self.old.refusal ≡ None
+            → (t : List ℕ) (ms : List Mark) → AgreesBetween self.old.machine t ms
             → IsNext result
             (call self.old self.new (R.remaining reader.old) (R.remaining reader.new) t ms) }
         ensures limits { KeepsLimits self.old.machine self.new.machine }
@@ -129,8 +129,8 @@ impl ItemEvents {
         requires head { is_asked ≡ true → self.old.refusal ≡ None
             → self.old.machine.in_payload ≡ false }
         // For all bytes and marks that the machine represented, as long as nothing was refused.
-        ensures answers { self.old.refusal ≡ None
-            → (t : List ℕ) (ms : List Mark) → StandsBetween self.old.machine t ms
+        ensures returned { self.old.refusal ≡ None
+            → (t : List ℕ) (ms : List Mark) → AgreesBetween self.old.machine t ms
             → IsNextOf is_asked result
             (call self.old self.new (R.remaining reader.old) (R.remaining reader.new) t ms) }
         ensures limits { KeepsLimits self.old.machine self.new.machine }
@@ -150,12 +150,12 @@ impl ItemEvents {
         if let Some(refusal) = self.refusal {
             return Err(refusal);
         }
-        let answer = if is_asked {
+        let outcome = if is_asked {
             key_head(&mut self.machine, reader)
         } else {
             advance(&mut self.machine, reader, &mut self.buffer, &mut self.held)
         };
-        match answer {
+        match outcome {
             Ok(event) => Ok(event),
             Err(refusal) => {
                 self.refusal = Some(refusal);

@@ -12,9 +12,9 @@ ghost use Rattle.cbor_head.specs.Beginning.{IsLongestBeginning};
 ghost use Rattle.theory_automaton.specs.Marks.{marks_of};
 ghost use Rattle.theory_automaton.specs.Event.{events, marks_in, joined, cut, AreReported};
 ghost use Rattle.cbor_head.specs.declared.event.Event.{Event};
-ghost use Rattle.cbor_machine.specs.NextEvent.{Call, StandsBetween, IsNextEvent, IsEnd};
+ghost use Rattle.cbor_machine.specs.NextEvent.{Call, AgreesBetween, IsNextEvent, IsEnd};
 ghost use Rattle.cbor_machine.specs.MachineView.{MachineView};
-ghost use Rattle.cbor_machine.specs.Machine.{StandsFor, IsComplete, IsGiven, IsRefused};
+ghost use Rattle.cbor_machine.specs.Machine.{Represents, IsComplete, IsGiven, IsRefused};
 
 /// What a machine returns is the verdict of form: its refusals, and the complete item.
 pub fn machine_verdict()
@@ -22,7 +22,7 @@ pub fn machine_verdict()
         → IsRefused r m t bs ms → (more : List ℕ)
         → IsVerdict (bounds m.depth m.bytes) form ((t ++ bs) ++ more) (refused r) }
     ensures accepts { (m : MachineView) (t : List ℕ) (ms : List Mark)
-        → StandsFor m t ms → IsComplete m → (more : List ℕ)
+        → Represents m t ms → IsComplete m → (more : List ℕ)
         → (s : Spelling) × IsVerdict (bounds m.depth m.bytes) form (t ++ more) (accepted s) }
 {}
 
@@ -35,7 +35,7 @@ pub fn reported_events()
         → AreReported es ms → IsGiven e m t bs ms
         → AreReported (es ++ e ∷ []) (ms ++ marks_of e.width e.kind) }
     ensures joined { (m : MachineView) (t : List ℕ) (ms : List Mark) (es : List Event)
-        → StandsFor m t ms → AreReported es ms
+        → Represents m t ms → AreReported es ms
         → (s : Spelling) (rest : List ℕ) → IsItem m.depth s (t ++ rest)
         → joined es ≡ cut (length t) (events 0 s) }
 {}
@@ -45,10 +45,10 @@ pub fn reported_events()
 /// says what they are.
 pub fn next_events()
     ensures more { (c : Call) (es : List Event) (e : Event) → AreReported es c.reported
-        → StandsBetween c.old c.taken c.reported → IsNextEvent e c
+        → AgreesBetween c.old c.taken c.reported → IsNextEvent e c
         → AreReported (es ++ e ∷ []) (c.reported ++ marks_of e.width e.kind) }
     ensures all { (c : Call) (es : List Event) → AreReported es c.reported
-        → StandsBetween c.old c.taken c.reported → IsEnd c
+        → AgreesBetween c.old c.taken c.reported → IsEnd c
         → (s : Spelling) × IsItem c.old.depth s c.taken × (joined es ≡ events 0 s) }
 {}
 

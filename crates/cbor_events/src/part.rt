@@ -7,8 +7,8 @@ ghost use Rattle.theory_automaton.specs.Marks.{IsProper};
 ghost use Rattle.theory_automaton.specs.Pieces.{kind_size};
 ghost use Rattle.theory_automaton.specs.Reasons.{IsEventReason, IsMachineReason};
 ghost use Rattle.cbor_machine.specs.MachineView.{MachineView};
-ghost use Rattle.cbor_machine.specs.Machine.{KeepsLimits, StandsFor, wanted};
-ghost use Rattle.cbor_machine.specs.NextEvent.{StandsBetween};
+ghost use Rattle.cbor_machine.specs.Machine.{KeepsLimits, Represents, wanted};
+ghost use Rattle.cbor_machine.specs.NextEvent.{AgreesBetween};
 ghost use Rattle.cbor_machine.specs.Calls.{HasRead};
 ghost use Rattle.cbor_events.specs.inner.Reads.{IsAsked, IsPartTaken, IsPartRead, IfPartReported, IfStopped};
 ghost use Rattle.cbor_events.specs.inner.Reads.{HasTaken, HasStopped};
@@ -74,7 +74,7 @@ pub(crate) enum PartialEvent {
 fn take_read(machine: &mut Machine, part: &[u8]) -> PartialEvent
     requires some { 0 < length part.now }
     requires wanted { length part.now ≤ wanted machine.old }
-    ensures answers { (t : List ℕ) (ms : List Mark) → StandsFor machine.old t ms
+    ensures returned { (t : List ℕ) (ms : List Mark) → Represents machine.old t ms
         → IsPartTaken result machine.old machine.new t part.now ms }
     ensures limits { KeepsLimits machine.old machine.new }
     ensures proper { IfPartReported result (λ e. IsProper e.width e.kind) }
@@ -98,7 +98,7 @@ fn take_read(machine: &mut Machine, part: &[u8]) -> PartialEvent
 fn take_slowly(machine: &mut Machine, part: &[u8]) -> PartialEvent
     requires some { 0 < length part.now }
     requires wanted { length part.now ≤ wanted machine.old }
-    ensures answers { (t : List ℕ) (ms : List Mark) → StandsFor machine.old t ms
+    ensures returned { (t : List ℕ) (ms : List Mark) → Represents machine.old t ms
         → IsPartTaken result machine.old machine.new t part.now ms }
     ensures limits { KeepsLimits machine.old machine.new }
     ensures proper { IfPartReported result (λ e. IsProper e.width e.kind) }
@@ -128,13 +128,13 @@ pub(crate) fn read_part<R: Read>(
     requires wanted { want ≤ wanted machine.old }
     requires within { machine.old.open_count ≤ machine.old.depth }
     // For a call that began when the machine was `was` and the reader held `from`.
-    ensures answers { (was : MachineView) (from : Option (List ℕ)) (kept t : List ℕ)
-        (ms : List Mark) → StandsBetween was t ms
+    ensures returned { (was : MachineView) (from : Option (List ℕ)) (kept t : List ℕ)
+        (ms : List Mark) → AgreesBetween was t ms
         → HasRead from (R.remaining reader.old) machine.old t ms
         → machine.old.depth ≡ was.depth
         → IsPartRead result was machine.new from (R.remaining reader.new)
         kept buffer.new t ms }
-    ensures lost { (t : List ℕ) (ms : List Mark) → StandsFor machine.old t ms
+    ensures lost { (t : List ℕ) (ms : List Mark) → Represents machine.old t ms
         → HasTaken result machine.old machine.new want
         (R.remaining reader.old) (R.remaining reader.new) buffer.new t ms
         ⊎ HasStopped result machine.old }

@@ -134,7 +134,7 @@ fn argument_lengths(rt: HostRuntime) {
 #[test]
 fn arguments(rt: HostRuntime) -> Result<(), Fail> {
     // The heads 17, 18ff, 190100, 1a00010000 and 1b0000000100000000 of RFC 8949, each with a byte after it.
-    for (low, behind, width, number) in [
+    for (low, following, width, number) in [
         (23, b"\x00".as_slice(), Width::Direct, 23),
         (24, b"\xff\x00".as_slice(), Width::One, 255),
         (25, b"\x01\x00\x00".as_slice(), Width::Two, 256),
@@ -146,13 +146,13 @@ fn arguments(rt: HostRuntime) -> Result<(), Fail> {
             4294967296,
         ),
     ] {
-        let argument = read_argument(low, behind).ok_or("an argument")?;
+        let argument = read_argument(low, following).ok_or("an argument")?;
         assert!(rt;
             argument.width == width && argument.number == number && argument.rest.len() == 1,
             "at {low}"
         );
         if low > 23 {
-            let cut = &behind[..behind.len() - 2];
+            let cut = &following[..following.len() - 2];
             assert!(rt; read_argument(low, cut).is_none(), "cut at {low}");
         }
     }

@@ -9,12 +9,12 @@ use Rattle.cbor_head.{specs.declared.width.Width.Width, proofs.HeadBack.first_ke
 use Rattle.cbor_head.proofs.WholeHead.{head_holds, one_head}
 
 -- what the first byte of a head is, and what follows it
-record Begins (m : Major) (w : Width) (n : ℕ) (x : List ℕ) (first : ℕ) (behind : List ℕ) : Type 0 where
+record Begins (m : Major) (w : Width) (n : ℕ) (x : List ℕ) (first : ℕ) (following : List ℕ) : Type 0 where
   low : ℕ
   low_is : low < 28
   first_is : first ≡ 32 * major_number m + low
-  argument : IsArgument low behind w n x
-  space : 24 ≤ low → 2 ^ (low - 24) ≤ length behind
+  argument : IsArgument low following w n x
+  space : 24 ≤ low → 2 ^ (low - 24) ≤ length following
 
 tail_is : (a b : ℕ) (xs ys : List ℕ) → a ∷ xs ≡ b ∷ ys → xs ≡ ys
 tail_is a b xs ys e = cc e
@@ -22,10 +22,10 @@ tail_is a b xs ys e = cc e
 head_is : (a b : ℕ) (xs ys : List ℕ) → a ∷ xs ≡ b ∷ ys → a ≡ b
 head_is a b xs ys e = cc e
 
-begins : (m : Major) (w : Width) (n : ℕ) (x : List ℕ) (first : ℕ) (behind : List ℕ) → IsHead m w n → first ∷ behind ≡ head m w n ++ x → Begins m w n x first behind
-begins m w n x first behind h e = go w (head_holds m w n h) e
+begins : (m : Major) (w : Width) (n : ℕ) (x : List ℕ) (first : ℕ) (following : List ℕ) → IsHead m w n → first ∷ following ≡ head m w n ++ x → Begins m w n x first following
+begins m w n x first following h e = go w (head_holds m w n h) e
   where
-    go : (w : Width) → Holds w n → first ∷ behind ≡ head m w n ++ x → Begins m w n x first behind
+    go : (w : Width) → Holds w n → first ∷ following ≡ head m w n ++ x → Begins m w n x first following
     go Direct h e = record {
       low = n;
       low_is = omega (arith, h);
@@ -64,8 +64,8 @@ begins m w n x first behind h e = go w (head_holds m w n h) e
     go Indefinite h e = absurd h
 
 -- one argument after the low bits
-one_argument : (low : ℕ) (behind : List ℕ) (v w : Width) (k n : ℕ) (x y : List ℕ) → IsArgument low behind v k x → IsArgument low behind w n y → (v ≡ w) × (k ≡ n) × (x ≡ y)
-one_argument low behind v w k n x y a b =
+one_argument : (low : ℕ) (following : List ℕ) (v w : Width) (k n : ℕ) (x y : List ℕ) → IsArgument low following v k x → IsArgument low following w n y → (v ≡ w) × (k ≡ n) × (x ≡ y)
+one_argument low following v w k n x y a b =
     let t = one_head Unsigned Unsigned v w k n x y a.holds b.holds (sym (a.spelled 0) ∙ b.spelled 0) in
     (t.1, t.2, t.3)
 
@@ -79,25 +79,25 @@ no_bytes m Eight n e = cc e
 no_bytes m Indefinite n e = cc e
 
 -- the head that an argument ends
-pub head_here : (first : ℕ) (behind : List ℕ) (w : Width) (n : ℕ) (rest : List ℕ) → first < 256 → IsArgument (first % 32) behind w n rest → first ∷ behind ≡ head (major_of (first / 32)) w n ++ rest
-head_here first behind w n rest small a = ap (λ (x : ℕ). x ∷ behind) (sym (first_kept first small)) ∙ a.spelled (32 * major_number (major_of (first / 32)))
+pub head_here : (first : ℕ) (following : List ℕ) (w : Width) (n : ℕ) (rest : List ℕ) → first < 256 → IsArgument (first % 32) following w n rest → first ∷ following ≡ head (major_of (first / 32)) w n ++ rest
+head_here first following w n rest small a = ap (λ (x : ℕ). x ∷ following) (sym (first_kept first small)) ∙ a.spelled (32 * major_number (major_of (first / 32)))
 
 -- some bytes begin with a head: its argument is complete, and it is the only one
-pub record ReadsHead (first : ℕ) (behind : List ℕ) (m : Major) (w : Width) (n : ℕ) (x : List ℕ) : Type 0 where
+pub record ReadsHead (first : ℕ) (following : List ℕ) (m : Major) (w : Width) (n : ℕ) (x : List ℕ) : Type 0 where
   pub type : first / 32 ≡ major_number m
   pub low : first % 32 < 28
-  pub space : 24 ≤ first % 32 → 2 ^ (first % 32 - 24) ≤ length behind
-  pub only : (v : Width) (k : ℕ) (y : List ℕ) → IsArgument (first % 32) behind v k y → (v ≡ w) × (k ≡ n) × (y ≡ x)
+  pub space : 24 ≤ first % 32 → 2 ^ (first % 32 - 24) ≤ length following
+  pub only : (v : Width) (k : ℕ) (y : List ℕ) → IsArgument (first % 32) following v k y → (v ≡ w) × (k ≡ n) × (y ≡ x)
 
-pub reads_head : (first : ℕ) (behind : List ℕ) (m : Major) (w : Width) (n : ℕ) (x : List ℕ) → IsHead m w n → first ∷ behind ≡ head m w n ++ x → ReadsHead first behind m w n x
-reads_head first behind m w n x h e =
-    let b = begins m w n x first behind h e in
+pub reads_head : (first : ℕ) (following : List ℕ) (m : Major) (w : Width) (n : ℕ) (x : List ℕ) → IsHead m w n → first ∷ following ≡ head m w n ++ x → ReadsHead first following m w n x
+reads_head first following m w n x h e =
+    let b = begins m w n x first following h e in
     let low : first % 32 ≡ b.low = omega (arith, b.first_is, b.low_is) in
     record {
       type = omega (arith, b.first_is, b.low_is);
       low = omega (arith, low, b.low_is);
-      space = λ l. subst (λ (k : ℕ). 24 ≤ k → 2 ^ (k - 24) ≤ length behind) (sym low) b.space l;
-      only = λ v k y a. one_argument b.low behind v w k n y x (subst (λ (l : ℕ). IsArgument l behind v k y) low a) b.argument;
+      space = λ l. subst (λ (k : ℕ). 24 ≤ k → 2 ^ (k - 24) ≤ length following) (sym low) b.space l;
+      only = λ v k y a. one_argument b.low following v w k n y x (subst (λ (l : ℕ). IsArgument l following v k y) low a) b.argument;
     }
 
 -- the two heads are the same

@@ -2,7 +2,7 @@
 use Rattle.std.specs.Prelude.{ℕ, ◌≡◌, ◌≤◌, ◌++◌, List, take}
 use Rattle.cbor_head.specs.Complaint.{Rules, Complaint, IsComplaint}
 use Rattle.cbor_head.specs.Spelling.{Spelling, IsSpelled, IsItem, spell, depth}
-use Rattle.cbor_head.specs.Verdict.{Answer, DecidesBy, HasNoneOf, IsFirstOf}
+use Rattle.cbor_head.specs.Verdict.{Decision, DecidesBy, HasNoneOf, IsFirstOf}
 use Rattle.cbor_head.specs.Limits.{Bounds}
 
 -- b begins with the item s, well-formed within the depth, and rest follows it
@@ -26,5 +26,5 @@ abbrev pub IsWithout : Bounds → Rules → Spelling → ℕ → Type 0
 IsWithout limits rules s t = HasNoneOf (IsComplaint limits rules s) t
 
 -- the answer that an item starting with p decides, from its complaints
-abbrev pub Decides : Bounds → Rules → List ℕ → List ℕ → Spelling → Answer → Type 0
-Decides limits rules p behind s x = DecidesBy (IsComplaint limits rules) limits p behind s x
+abbrev pub Decides : Bounds → Rules → List ℕ → List ℕ → Spelling → Decision → Type 0
+Decides limits rules p following s x = DecidesBy (IsComplaint limits rules) limits p following s x

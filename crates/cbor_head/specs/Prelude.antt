@@ -7,6 +7,6 @@ pub use Rattle.cbor_head.specs.Spelling.{Chunk, Spelling, unsigned, negative, by
 pub use Rattle.cbor_head.specs.Canonical.{Pair, put, in_order, canonical, canonical_all, canonical_entries}
 pub use Rattle.cbor_head.specs.Order.{key_cmp, key_lt}
 pub use Rattle.cbor_head.specs.Complaint.{KeyRule, unasked, distinct, rising, Rules, form, plain, strict, Complaint, complaint, OfHead, OfIndefinite, OfCount, OfPayload, OfString, OfChunks, IsRepeated, OfKey, OfKind, ComplainsBy, ComplainsInBy, ComplainsInEntriesBy, Complains, OfKinds, IsComplaint}
-pub use Rattle.cbor_head.specs.Verdict.{refusal, initial_reason, IsReasonAt, IsFormError, rank, IsFirstOf, HasNoneOf, Answer, accepted, refused, DecidesBy, IsVerdictBy, IsVerdict}
+pub use Rattle.cbor_head.specs.Verdict.{refusal, initial_reason, IsReasonAt, IsFormError, rank, IsFirstOf, HasNoneOf, Decision, accepted, refused, DecidesBy, IsVerdictBy, IsVerdict}
 pub use Rattle.cbor_head.specs.Beginning.{IsBeginning, MayFollow, IsLongestBeginning}
 pub use Rattle.cbor_head.specs.Reason.{reason_number}

@@ -48,30 +48,30 @@ abbrev pub HasNoneOf : (Complaint → Type 0) → ℕ → Type 0
 HasNoneOf P t = (c : Complaint) → P c → c.end ≤ t → ⊥
 
 -- an item, or the refusal
-pub data Answer : Type 0 where
-  accepted : Spelling → Answer
-  refused : Refusal → Answer
+pub data Decision : Type 0 where
+  accepted : Spelling → Decision
+  refused : Refusal → Decision
 
 -- the answer that an item starting with p decides, from its complaints P, given the bytes that follow p
-abbrev pub DecidesBy : (Spelling → Complaint → Type 0) → Bounds → List ℕ → List ℕ → Spelling → Answer → Type 0
-DecidesBy P limits p behind s (accepted t) = (t ≡ s) × (spell s ≡ p) × HasNoneOf (P s) (length p)
-DecidesBy P limits p behind s (refused f) =
+abbrev pub DecidesBy : (Spelling → Complaint → Type 0) → Bounds → List ℕ → List ℕ → Spelling → Decision → Type 0
+DecidesBy P limits p following s (accepted t) = (t ≡ s) × (spell s ≡ p) × HasNoneOf (P s) (length p)
+DecidesBy P limits p following s (refused f) =
     ((c : Complaint) × IsFirstOf (P s) (length p) c × (f ≡ refusal c.reason c.place c.end))
-    ⊎ (HasNoneOf (P s) (length p) × (spell s ≢ p) × IsFormError limits p behind f)
+    ⊎ (HasNoneOf (P s) (length p) × (spell s ≢ p) × IsFormError limits p following f)
 
 -- the answer for an input, from the complaints of items
-pub record IsVerdictBy (P : Spelling → Complaint → Type 0) (limits : Bounds) (input : List ℕ) (answer : Answer) : Type 0 where
+pub record IsVerdictBy (P : Spelling → Complaint → Type 0) (limits : Bounds) (input : List ℕ) (outcome : Decision) : Type 0 where
   -- the longest beginning, and an item that starts with it
   pub p : List ℕ
   pub longest : IsLongestBeginning limits.depth (take limits.bytes input) p
   pub item : Spelling
   pub rest : List ℕ
   pub starts : IsItem limits.depth item (p ++ rest)
-  pub decides : DecidesBy P limits p longest.rest item answer
+  pub decides : DecidesBy P limits p longest.rest item outcome
 
 -- within limits, by rules
-abbrev pub IsVerdict : Bounds → Rules → List ℕ → Answer → Type 0
-IsVerdict limits rules input answer = IsVerdictBy (IsComplaint limits rules) limits input answer
+abbrev pub IsVerdict : Bounds → Rules → List ℕ → Decision → Type 0
+IsVerdict limits rules input outcome = IsVerdictBy (IsComplaint limits rules) limits input outcome
 
 -- Examples, the plain verdict within 256 levels, for keys of any kind, unless the row says otherwise; each is a row of the conformance table, and
 -- VerdictExamples and KindExamples of theory_values/proofs have others, proved:

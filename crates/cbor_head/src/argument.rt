@@ -28,19 +28,19 @@ pub struct Argument<'a> {
 /// assert_eq!(rt; argument.rest.len(), 1);
 /// ```
 #[inline(always)]
-pub fn read_argument<'a>(low: u8, behind: &'a [u8]) -> Option<Argument<'a>>
-    ensures spelled { IfSome result (λ a. IsArgument low behind.now a.width a.number a.rest.now) }
-    ensures fewer { IfSome result (λ a. length a.rest.now ≤ length behind.now) }
+pub fn read_argument<'a>(low: u8, following: &'a [u8]) -> Option<Argument<'a>>
+    ensures spelled { IfSome result (λ a. IsArgument low following.now a.width a.number a.rest.now) }
+    ensures fewer { IfSome result (λ a. length a.rest.now ≤ length following.now) }
     ensures direct { IfSome result (λ a. low < 24 → a.number ≡ low) }
     ensures byte { IfSome result (λ a. low ≡ 24 → a.number < 256) }
     ensures long { result ≡ None → 24 ≤ low }
-    ensures cut { result ≡ None → low < 28 → length behind.now < 2 ^ (low - 24) }
+    ensures cut { result ≡ None → low < 28 → length following.now < 2 ^ (low - 24) }
 {
     if low < 24 {
         return Some(Argument {
             width: Width::Direct,
             number: u64::from(low),
-            rest: behind,
+            rest: following,
         });
     }
     let (width, size) = match low {
@@ -50,18 +50,18 @@ pub fn read_argument<'a>(low: u8, behind: &'a [u8]) -> Option<Argument<'a>>
         27 => (Width::Eight, 8),
         _ => return None,
     };
-    if behind.len() < size {
+    if following.len() < size {
         return None;
     }
     let number = match width {
-        Width::One => u64::from(behind[0]),
-        Width::Two => u64::from(BigEndian::read_u16(behind)),
-        Width::Four => u64::from(BigEndian::read_u32(behind)),
-        _ => BigEndian::read_u64(behind),
+        Width::One => u64::from(following[0]),
+        Width::Two => u64::from(BigEndian::read_u16(following)),
+        Width::Four => u64::from(BigEndian::read_u32(following)),
+        _ => BigEndian::read_u64(following),
     };
     Some(Argument {
         width,
         number,
-        rest: &behind[size..],
+        rest: &following[size..],
     })
 }

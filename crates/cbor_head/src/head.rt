@@ -44,9 +44,9 @@ impl Head {
         ensures each { (m : Major) (w : Width) (n : ℕ) → IsHead m w n
             → bytes.now ≡ head m w n → result ≡ Some (head_parts m w n) }
     {
-        let (first, behind) = bytes.split_first()?;
+        let (first, following) = bytes.split_first()?;
         let major = Major::of_number(*first / 32);
-        let argument = read_argument(*first % 32, behind)?;
+        let argument = read_argument(*first % 32, following)?;
         if argument.rest.is_empty() && is_head(major, argument.width, argument.number) {
             Some(Head {
                 major,

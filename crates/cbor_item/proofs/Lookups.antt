@@ -14,10 +14,10 @@ abbrev entries : List Pair → Entries
 entries ps = entries_in view_value ps
 
 -- what these pairs have at the key, the others have too
-abbrev pub LeadsBehind : Value → List Pair → List Pair → Type 0
-LeadsBehind k ps rest = (v : Value) → HasValueAt (map (entries ps)) k v → HasValueAt (map (entries rest)) k v
+abbrev pub LeadsAfter : Value → List Pair → List Pair → Type 0
+LeadsAfter k ps rest = (v : Value) → HasValueAt (map (entries ps)) k v → HasValueAt (map (entries rest)) k v
 
-pub looked_by : (k : Value) (ps : List Pair) (i : ℕ) (d : Pair) → i < length ps → LeadsBehind k ps (drop i ps) → (Same (view_value (get_or ps i d).0) k → ⊥) → LeadsBehind k ps (drop (i + 1) ps)
+pub looked_by : (k : Value) (ps : List Pair) (i : ℕ) (d : Pair) → i < length ps → LeadsAfter k ps (drop i ps) → (Same (view_value (get_or ps i d).0) k → ⊥) → LeadsAfter k ps (drop (i + 1) ps)
 looked_by k ps i d l inv miss v h =
     let at = subst (λ (ps : List Pair). HasValueAt (map (entries ps)) k v) (drop_more ps i d l) (inv v h) in
     elim at.1 [ inl s ↦ absurd (miss (subst (λ (l : Value). Same l k) s.0 at.2)) | inr m ↦ (at.0, m, at.2) ]
@@ -30,8 +30,8 @@ has_pair (q ∷ ps) (suc i) d l = inr (has_pair ps i d (omega (arith, l)))
 pub found_by : (k : Value) (ps : List Pair) (i : ℕ) (d : Pair) → i < length ps → Same (view_value (get_or ps i d).0) k → HasValueAt (map (entries ps)) k (view_value (get_or ps i d).1)
 found_by k ps i d l s = (view_value (get_or ps i d).0, has_pair ps i d l, s)
 
-pub none_behind : (k : Value) (ps : List Pair) (i : ℕ) → length ps ≤ i → LeadsBehind k ps (drop i ps) → (v : Value) → HasValueAt (map (entries ps)) k v → ⊥
-none_behind k ps i l inv v h = (subst (λ (ps : List Pair). HasValueAt (map (entries ps)) k v) (drop_all i ps l) (inv v h)).1
+pub none_following : (k : Value) (ps : List Pair) (i : ℕ) → length ps ≤ i → LeadsAfter k ps (drop i ps) → (v : Value) → HasValueAt (map (entries ps)) k v → ⊥
+none_following k ps i l inv v h = (subst (λ (ps : List Pair). HasValueAt (map (entries ps)) k v) (drop_all i ps l) (inv v h)).1
 
 -- ---- members
 

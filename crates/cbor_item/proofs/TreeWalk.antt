@@ -6,7 +6,7 @@ use Rattle.cbor_head.specs.Value as value
 use Rattle.cbor_head.specs.Prelude.{Value, IsInRange, AreInRange, AreEntriesInRange}
 use Rattle.theory_values.specs.Lists.{values_of}
 use Rattle.cbor_item.specs.OpenValues.{OpenValue, ValuePart, leaf, begin, end, after, give, opened, parts_of, parts_of_entries, Makes, the_whole}
-use Rattle.cbor_item.specs.inner.TreeWalk.{parts_in, parts_behind, parts_left, IsBegun}
+use Rattle.cbor_item.specs.inner.TreeWalk.{parts_in, parts_after, parts_left, IsBegun}
 use Rattle.cbor_item.specs.{Nodes.entries_in, Nodes.values_in, inner.Rest.flat}
 
 -- the remaining parts may follow with these open, and make w
@@ -25,9 +25,9 @@ pub walks_begun : (w v : Value) (us vs : List Value) (vss : List (List Value)) (
     → Walks w (us ∷ vs ∷ vss) os'
 walks_begun w v us vs vss os os' k b =
     let ps = parts_in us in
-    let joined = append_assoc (ps ++ end ∷ []) (parts_in vs) (parts_behind vss) ∙ append_assoc ps (end ∷ []) (parts_in vs ++ parts_behind vss) in
+    let joined = append_assoc (ps ++ end ∷ []) (parts_in vs) (parts_after vss) ∙ append_assoc ps (end ∷ []) (parts_in vs ++ parts_after vss) in
     record {
-      makes = rw (b.given) (subst (λ qs. Makes w qs (after b.first os)) joined (subst (λ qs. Makes w ((qs ++ parts_in vs) ++ parts_behind vss) os) b.parts k.makes).1);
+      makes = rw (b.given) (subst (λ qs. Makes w qs (after b.first os)) joined (subst (λ qs. Makes w ((qs ++ parts_in vs) ++ parts_after vss) os) b.parts k.makes).1);
       in_range = (b.in_range, (k.in_range.0.1, k.in_range.1));
     }
 

@@ -45,8 +45,8 @@ mutual
   makes_entries w value.no_entries acc ps os m = subst (λ (fs : List (Value × Value)). Makes w ps (a_map fs ∷ os)) (append-nil acc) m
   makes_entries w (value.entry k v es) acc ps os m =
       let more = makes_entries w es (acc ++ (k, v) ∷ []) ps os (rw (append_assoc acc ((k, v) ∷ []) (pairs_of es)) m) in
-      let behind = makes w v (parts_of_entries es ++ ps) (a_key acc k ∷ os) tt more in
-      rw (append_assoc (parts_of k) (parts_of v ++ parts_of_entries es) ps, append_assoc (parts_of v) (parts_of_entries es) ps) (makes w k (parts_of v ++ (parts_of_entries es ++ ps)) (a_map acc ∷ os) tt behind)
+      let following = makes w v (parts_of_entries es ++ ps) (a_key acc k ∷ os) tt more in
+      rw (append_assoc (parts_of k) (parts_of v ++ parts_of_entries es) ps, append_assoc (parts_of v) (parts_of_entries es) ps) (makes w k (parts_of v ++ (parts_of_entries es ++ ps)) (a_map acc ∷ os) tt following)
 
 -- so they make the whole of it
 pub makes_whole : (w : Value) → Makes w (parts_of w) (the_whole [] ∷ [])

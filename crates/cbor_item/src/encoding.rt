@@ -65,21 +65,21 @@ pub(crate) fn encode_distinct<N: Node>(
     let mut outer = Vec::new(alloc);
     'nodes: loop {
         match rest.next() {
-            Some((next, behind)) => {
-                rest = behind;
+            Some((next, following)) => {
+                rest = following;
                 if let Some(content) = begin(memory, &mut builder, next)? {
                     memory.push(&mut outer, rest)?;
                     rest = content;
                 }
             }
             None => {
-                let Some(behind) = outer.pop() else {
+                let Some(following) = outer.pop() else {
                     break;
                 };
                 if end_if_distinct(memory, &mut builder)?.is_some() {
                     return Ok(None);
                 }
-                rest = behind;
+                rest = following;
             }
         }
     }

@@ -27,14 +27,14 @@ impl<'a, N: Node> Rest<'a, N> {
         match self {
             Rest::One(node) => Some((node, Rest::Members(&[]))),
             Rest::Members(nodes) => {
-                let (node, behind) = nodes.split_first()?;
-                Some((node, Rest::Members(behind)))
+                let (node, following) = nodes.split_first()?;
+                Some((node, Rest::Members(following)))
             }
             Rest::Pairs(pairs) => {
-                let (pair, behind) = pairs.split_first()?;
-                Some((&pair.0, Rest::Value(&pair.1, behind)))
+                let (pair, following) = pairs.split_first()?;
+                Some((&pair.0, Rest::Value(&pair.1, following)))
             }
-            Rest::Value(value, behind) => Some((value, Rest::Pairs(behind))),
+            Rest::Value(value, following) => Some((value, Rest::Pairs(following))),
         }
     }
 }

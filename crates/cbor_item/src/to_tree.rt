@@ -82,19 +82,19 @@ fn item_of<N: Node>(memory: &mut Memory, alloc: Global, node: &N) -> Result<Item
     let mut outer = Vec::new(alloc);
     'nodes: loop {
         match rest.next() {
-            Some((next, behind)) => {
-                rest = behind;
+            Some((next, following)) => {
+                rest = following;
                 if let Some(content) = begin(memory, alloc, &mut builder, next)? {
                     memory.push(&mut outer, rest)?;
                     rest = content;
                 }
             }
             None => {
-                let Some(behind) = outer.pop() else {
+                let Some(following) = outer.pop() else {
                     break;
                 };
                 end(memory, &mut builder)?;
-                rest = behind;
+                rest = following;
             }
         }
     }

@@ -48,8 +48,8 @@ fn is_nested_in<'a>(item: &'a Item, cells: &mut [Rest<'a, Item>]) -> bool
     let mut height = 0;
     'items: loop {
         match rest.next() {
-            Some((next, behind)) => {
-                rest = behind;
+            Some((next, following)) => {
+                rest = following;
                 if let Some(content) = held(next) {
                     if height == cells.len() {
                         return false;

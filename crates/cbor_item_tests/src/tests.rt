@@ -91,10 +91,10 @@ h:01 c:2 | 1 | different | 2(h'01') and 1
 fn finds_the_same(rt: HostRuntime) -> Result<(), Fail> {
     let alloc = rt.alloc();
     for line in COMPARED.trim().lines() {
-        let (left, right, answer) = columns_of(line)?;
+        let (left, right, outcome) = columns_of(line)?;
         let left = tree_of(alloc, left)?;
         let right = tree_of(alloc, right)?;
-        let is_same = answer == "same";
+        let is_same = outcome == "same";
         assert!(rt; same(&left, &right) == is_same, "{line}");
         assert!(rt; same(&right, &left) == is_same, "{line}");
         assert!(rt; same(&left, &left), "{line}");

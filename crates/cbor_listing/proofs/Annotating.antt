@@ -13,11 +13,11 @@ use Rattle.cbor_head.specs.declared.{width.Width.Width, reason.Refusal.Refusal, 
 use Rattle.theory_values.proofs.KindsUnasked.{form_beside}
 use Rattle.theory_automaton.specs.{Trace.Mark, Trace.total, Trace.more_bytes, Event.event, Event.joined, Event.joined_with, Event.piece_onto, Event.kind_onto, Event.event_size, Event.AreReported}
 use Rattle.theory_automaton.{specs.Marks.marks_of, specs.Open.open_after, proofs.Rows.total-append, proofs.Joining.bytes-total}
-use Rattle.cbor_machine.specs.NextEvent.{machine_call, StandsBetween, IsNextEvent, IsEnd, IsCut, IsTooLong, HasFormError}
+use Rattle.cbor_machine.specs.NextEvent.{machine_call, AgreesBetween, IsNextEvent, IsEnd, IsCut, IsTooLong, HasFormError}
 use Rattle.cbor_machine.proofs.Reported.{reported-none, reported-joined, next-more, next-all}
-use Rattle.cbor_machine.{specs.Machine.StandsFor, specs.Machine.before, specs.MachineView.MachineView, proofs.Form.complete-verdict}
-use Rattle.cbor_listing.specs.Annotated.{event_rows, event_rows_by, row_start, meaning, payload_text, ends_payload, level, level_in, context_by, context_after, context_behind, no_string, annotated_event, annotated_behind, annotated, IsAnnotation, IsAnnotationCut, IsAnnotated, IsUnannotated, of_verdict, of_reader, of_writer}
-use Rattle.cbor_listing.specs.inner.Annotated.{IsShortHead, IsHeld, IsHeldBehind}
+use Rattle.cbor_machine.{specs.Machine.Represents, specs.Machine.before, specs.MachineView.MachineView, proofs.Form.complete-verdict}
+use Rattle.cbor_listing.specs.Annotated.{event_rows, event_rows_by, row_start, meaning, payload_text, ends_payload, level, level_in, context_by, context_after, context_after_events, no_string, annotated_event, annotated_events, annotated, IsAnnotation, IsAnnotationCut, IsAnnotated, IsUnannotated, of_verdict, of_reader, of_writer}
+use Rattle.cbor_listing.specs.inner.Annotated.{IsShortHead, IsHeld, IsHeldAfter}
 use Rattle.cbor_listing.{specs.declared.annotated_line.Context.Context, proofs.Listed.known, proofs.Listed.accepted-item}
 
 -- ---- neighbouring pieces as one
@@ -42,49 +42,49 @@ less : (c : Context) (n m : ℕ) → record c { left = c.left - (n + m) } ≡ re
 less c n m = let e : c.left - (n + m) ≡ (c.left - n) - m = omega arith in ap (λ (k : ℕ). record c { left = k }) e
 
 module _ (start : ℕ) (item : Spelling) where
-  abbrev behind : Context → List Event → List ℕ
-  behind c es = annotated_behind start item c es
+  abbrev following : Context → List Event → List ℕ
+  following c es = annotated_events start item c es
 
-  before-behind : (c : Context) (at n : ℕ) (w : Width) (place : ℕ) (width : Width) (k : EventKind) (es : List Event)
-      → behind c (joined_with (event at w (Piece n)) n k (event place width k) es) ≡ behind c (event at w (Piece n) ∷ event place width k ∷ es)
-  before-behind c at n w place width (Piece m) es =
+  before-following : (c : Context) (at n : ℕ) (w : Width) (place : ℕ) (width : Width) (k : EventKind) (es : List Event)
+      → following c (joined_with (event at w (Piece n)) n k (event place width k) es) ≡ following c (event at w (Piece n) ∷ event place width k ∷ es)
+  before-following c at n w place width (Piece m) es =
       let xs = payload_text (start + c.begun) c.level c.is_text (take c.size (drop c.begun (spell item))) in
-      ap₂ (λ (ys : List ℕ) (d : Context). ys ++ behind d es) (merged c.left n m xs) (less c n m)
-      ∙ append_assoc (cond (ends_payload c.left n) xs []) (cond (ends_payload (c.left - n) m) xs []) (behind (record c { left = (c.left - n) - m }) es)
-  before-behind c at n w place width _ es = refl
+      ap₂ (λ (ys : List ℕ) (d : Context). ys ++ following d es) (merged c.left n m xs) (less c n m)
+      ∙ append_assoc (cond (ends_payload c.left n) xs []) (cond (ends_payload (c.left - n) m) xs []) (following (record c { left = (c.left - n) - m }) es)
+  before-following c at n w place width _ es = refl
 
-  piece-behind : (c : Context) (at n : ℕ) (w : Width) (es : List Event) → behind c (piece_onto (event at w (Piece n)) n es) ≡ behind c (event at w (Piece n) ∷ es)
-  piece-behind c at n w [] = refl
-  piece-behind c at n w (f ∷ es) = before-behind c at n w f.place f.width f.kind es
+  piece-following : (c : Context) (at n : ℕ) (w : Width) (es : List Event) → following c (piece_onto (event at w (Piece n)) n es) ≡ following c (event at w (Piece n) ∷ es)
+  piece-following c at n w [] = refl
+  piece-following c at n w (f ∷ es) = before-following c at n w f.place f.width f.kind es
 
-  kind-behind : (c : Context) (at : ℕ) (w : Width) (k : EventKind) (es : List Event) → behind c (kind_onto k (event at w k) es) ≡ behind c (event at w k ∷ es)
-  kind-behind c at w (Piece n) es = piece-behind c at n w es
-  kind-behind c at w _ es = refl
+  kind-following : (c : Context) (at : ℕ) (w : Width) (k : EventKind) (es : List Event) → following c (kind_onto k (event at w k) es) ≡ following c (event at w k ∷ es)
+  kind-following c at w (Piece n) es = piece-following c at n w es
+  kind-following c at w _ es = refl
 
-  joined-behind : (c : Context) (es : List Event) → behind c (joined es) ≡ behind c es
-  joined-behind c [] = refl
-  joined-behind c (e ∷ es) =
-      kind-behind c e.place e.width e.kind (joined es)
-      ∙ ap (λ (l : List ℕ). annotated_event start item c e ++ l) (joined-behind (context_after (level_in item c e) e c) es)
+  joined-following : (c : Context) (es : List Event) → following c (joined es) ≡ following c es
+  joined-following c [] = refl
+  joined-following c (e ∷ es) =
+      kind-following c e.place e.width e.kind (joined es)
+      ∙ ap (λ (l : List ℕ). annotated_event start item c e ++ l) (joined-following (context_after (level_in item c e) e c) es)
 
 -- ---- one event more
 
-behind-more : (start : ℕ) (item : Spelling) (c : Context) (es : List Event) (e : Event)
-    → annotated_behind start item c (es ++ e ∷ []) ≡ annotated_behind start item c es ++ annotated_event start item (context_behind item c es) e
-behind-more start item c [] e = append-nil (annotated_event start item c e)
-behind-more start item c (f ∷ es) e =
+following-more : (start : ℕ) (item : Spelling) (c : Context) (es : List Event) (e : Event)
+    → annotated_events start item c (es ++ e ∷ []) ≡ annotated_events start item c es ++ annotated_event start item (context_after_events item c es) e
+following-more start item c [] e = append-nil (annotated_event start item c e)
+following-more start item c (f ∷ es) e =
     let d = context_after (level_in item c f) f c in
-    ap (λ l. annotated_event start item c f ++ l) (behind-more start item d es e)
-    ∙ sym (append_assoc (annotated_event start item c f) (annotated_behind start item d es) (annotated_event start item (context_behind item d es) e))
+    ap (λ l. annotated_event start item c f ++ l) (following-more start item d es e)
+    ∙ sym (append_assoc (annotated_event start item c f) (annotated_events start item d es) (annotated_event start item (context_after_events item d es) e))
 
 context-more : (item : Spelling) (c : Context) (es : List Event) (e : Event)
-    → context_behind item c (es ++ e ∷ []) ≡ context_after (level_in item (context_behind item c es) e) e (context_behind item c es)
+    → context_after_events item c (es ++ e ∷ []) ≡ context_after (level_in item (context_after_events item c es) e) e (context_after_events item c es)
 context-more item c [] e = refl
 context-more item c (f ∷ es) e = context-more item (context_after (level_in item c f) f c) es e
 
 -- these are the lines of the events, and this is the context after them, in each item that starts with t
 abbrev pub AreLines : ℕ → ℕ → List ℕ → List ℕ → List Event → Context → Type 0
-AreLines start d t text es context = (item : Spelling) (rest : List ℕ) → IsItem d item (t ++ rest) → (text ≡ annotated start item es) × (context ≡ context_behind item no_string es)
+AreLines start d t text es context = (item : Spelling) (rest : List ℕ) → IsItem d item (t ++ rest) → (text ≡ annotated start item es) × (context ≡ context_after_events item no_string es)
 
 -- The lines of all events so far were written, and no byte after these events was consumed.
 pub record HasAnnotated (start : ℕ) (m : MachineView) (input : List ℕ) (now old new : Option (List ℕ)) (written : ℕ) (context : Context) : Type 0 where
@@ -92,7 +92,7 @@ pub record HasAnnotated (start : ℕ) (m : MachineView) (input : List ℕ) (now 
   pub marks : List Mark
   pub reported : List Event
   pub text : List ℕ
-  pub between : StandsBetween m t marks
+  pub between : AgreesBetween m t marks
   pub are_reported : AreReported reported marks
   pub taken : Consumes (Some input) now t
   pub are_lines : AreLines start m.depth t text reported context
@@ -100,8 +100,8 @@ pub record HasAnnotated (start : ℕ) (m : MachineView) (input : List ℕ) (now 
   pub annotated_so_far : Appends old new text
   pub count : written ≡ min (length text) (2 ^ 64 - 1)
 
-pub none-annotated : (start : ℕ) (m : MachineView) (input : List ℕ) (old : Option (List ℕ)) → StandsBetween m [] [] → HasAnnotated start m input (Some (drop m.taken input)) old old 0 no_string
-none-annotated start m input old s = subst (λ (n : ℕ). HasAnnotated start m input (Some (drop n input)) old old 0 no_string) (sym s.stands.taken) (record {
+pub none-annotated : (start : ℕ) (m : MachineView) (input : List ℕ) (old : Option (List ℕ)) → AgreesBetween m [] [] → HasAnnotated start m input (Some (drop m.taken input)) old old 0 no_string
+none-annotated start m input old s = subst (λ (n : ℕ). HasAnnotated start m input (Some (drop n input)) old old 0 no_string) (sym s.agrees.taken) (record {
   t = [];
   marks = [];
   reported = [];
@@ -122,11 +122,11 @@ level_now m context e = level m.open_count context e.kind
 abbrev pub rows_now : ℕ → MachineView → Context → Event → List ℕ → List ℕ
 rows_now start m context e input = event_rows start (level_now m context e) context e input
 
-size-is : (m new : MachineView) (now to : Option (List ℕ)) (kept piece t : List ℕ) (ms : List Mark) (e : Event) → StandsBetween m t ms
+size-is : (m new : MachineView) (now to : Option (List ℕ)) (kept piece t : List ℕ) (ms : List Mark) (e : Event) → AgreesBetween m t ms
     → (next : IsNextEvent e (machine_call m new now to kept piece t ms)) → length next.bytes ≡ event_size e
 size-is m new now to kept piece t ms e s next =
     let sum = total-append ms (marks_of e.width e.kind) in
-    omega (arith, sum, s.whole, next.stands.whole, length-append t next.bytes)
+    omega (arith, sum, s.whole, next.agrees.whole, length-append t next.bytes)
 
 -- ---- the bytes of an event in the input and in the item
 
@@ -145,7 +145,7 @@ cond-same true xs ys h = h refl
 cond-same false xs ys h = refl
 
 -- the lines of an event whose bytes were consumed do not depend on what follows
-same-rows : (k : EventKind) (start depth : ℕ) (context : Context) (e : Event) (all xs ys : List ℕ) → e.place + event_size e ≤ length all → IsHeldBehind k (length all) context
+same-rows : (k : EventKind) (start depth : ℕ) (context : Context) (e : Event) (all xs ys : List ℕ) → e.place + event_size e ≤ length all → IsHeldAfter k (length all) context
     → event_rows_by k start depth context e (all ++ xs) ≡ event_rows_by k start depth context e (all ++ ys)
 same-rows (Piece n) start depth context e all xs ys within held =
     cond-same (ends_payload context.left n) _ _
@@ -155,16 +155,16 @@ same-rows k start depth context e all xs ys within held =
     ap (λ (bs : List ℕ). row_start (start + e.place) depth bs ++ meaning k ++ codes "\n") (same-part all xs ys e.place (event_size e) within)
 
 -- a payload of which no byte is missing was consumed
-held-behind : (w : Width) (k : EventKind) (t bs : List ℕ) (depth at : ℕ) (c : Context) → length bs ≡ total (marks_of w k) → at ≡ length (t ++ bs) → IsHeld (length t) c
+held-following : (w : Width) (k : EventKind) (t bs : List ℕ) (depth at : ℕ) (c : Context) → length bs ≡ total (marks_of w k) → at ≡ length (t ++ bs) → IsHeld (length t) c
     → IsHeld (length (t ++ bs)) (context_by k depth at c)
-held-behind w (Bytes count) t bs depth at c size is held = omega arith
-held-behind w (Text count) t bs depth at c size is held = omega arith
-held-behind w (Chunk n) t bs depth at c size is held = omega arith
-held-behind w (Piece n) t bs depth at c size is held = let some = bytes-total n in omega (arith, length-append t bs, some)
-held-behind w End t bs depth at c size is held = omega (arith, length-append t bs)
-held-behind w _ t bs depth at c size is held = omega (arith, length-append t bs)
+held-following w (Bytes count) t bs depth at c size is held = omega arith
+held-following w (Text count) t bs depth at c size is held = omega arith
+held-following w (Chunk n) t bs depth at c size is held = omega arith
+held-following w (Piece n) t bs depth at c size is held = let some = bytes-total n in omega (arith, length-append t bs, some)
+held-following w End t bs depth at c size is held = omega (arith, length-append t bs)
+held-following w _ t bs depth at c size is held = omega (arith, length-append t bs)
 
-held-piece : (w : Width) (k : EventKind) (t bs : List ℕ) (c : Context) → length bs ≡ total (marks_of w k) → IsHeld (length t) c → IsHeldBehind k (length (t ++ bs)) c
+held-piece : (w : Width) (k : EventKind) (t bs : List ℕ) (c : Context) → length bs ≡ total (marks_of w k) → IsHeld (length t) c → IsHeldAfter k (length (t ++ bs)) c
 held-piece w (Piece n) t bs c size held = let some = bytes-total n in omega (arith, length-append t bs, some)
 held-piece w _ t bs c size held = tt
 
@@ -185,35 +185,35 @@ consumed-within input (Some ys) bs h = omega (arith, ap length h, length-append 
 
 -- no byte after the input was consumed
 pub taken-fits : (start : ℕ) (m : MachineView) (input : List ℕ) (now old new : Option (List ℕ)) (written : ℕ) (context : Context) → HasAnnotated start m input now old new written context → m.taken ≤ length input
-taken-fits start m input now old new written context h = let within = consumed-within input now h.t h.taken in omega (arith, within, h.between.stands.taken)
+taken-fits start m input now old new written context h = let within = consumed-within input now h.t h.taken in omega (arith, within, h.between.agrees.taken)
 
 -- where the bytes of the event are in the input
-pub record EventStands (start : ℕ) (new : MachineView) (input : List ℕ) (context : Context) (e : Event) (bytes : List ℕ) : Type 0 where
+pub record EventIsAt (start : ℕ) (new : MachineView) (input : List ℕ) (context : Context) (e : Event) (bytes : List ℕ) : Type 0 where
   pub within : new.taken ≤ length input
   pub size : new.taken ≡ e.place + event_size e
   pub short : IsShortHead e.kind (event_size e)
-  pub held : IsHeldBehind e.kind new.taken context
+  pub held : IsHeldAfter e.kind new.taken context
   pub limited : new.taken ≤ new.bytes
 
-pub event-stands : (start : ℕ) (m new : MachineView) (input : List ℕ) (now to old mid : Option (List ℕ)) (written : ℕ) (context : Context) (kept piece : List ℕ) (e : Event)
-    (h : HasAnnotated start m input now old mid written context) (next : IsNextEvent e (machine_call m new now to kept piece h.t h.marks)) → EventStands start new input context e next.bytes
-event-stands start m new input now to old mid written context kept piece e h next =
+pub event-agrees : (start : ℕ) (m new : MachineView) (input : List ℕ) (now to old mid : Option (List ℕ)) (written : ℕ) (context : Context) (kept piece : List ℕ) (e : Event)
+    (h : HasAnnotated start m input now old mid written context) (next : IsNextEvent e (machine_call m new now to kept piece h.t h.marks)) → EventIsAt start new input context e next.bytes
+event-agrees start m new input now to old mid written context kept piece e h next =
     let size : length next.bytes ≡ event_size e = size-is m new now to kept piece h.t h.marks e h.between next in
     let both : length (h.t ++ next.bytes) ≡ length h.t + length next.bytes = length-append h.t next.bytes in
-    let taken : new.taken ≡ length (h.t ++ next.bytes) = next.stands.stands.taken in
+    let taken : new.taken ≡ length (h.t ++ next.bytes) = next.agrees.agrees.taken in
     let place : e.place ≡ length h.t = next.place in
     let all : length (h.t ++ next.bytes) ≤ length input = consumed-within input to (h.t ++ next.bytes) (Consumes-trans (Some input) now to h.t next.bytes h.taken next.consumed) in
     record {
       within = omega (arith, taken, all);
       size = omega (arith, size, both, taken, place);
       short = short-head e.width e.kind (event_size e) refl;
-      held = subst (λ (n : ℕ). IsHeldBehind e.kind n context) (sym taken) (held-piece e.width e.kind h.t next.bytes context size h.held);
-      limited = next.stands.stands.limited;
+      held = subst (λ (n : ℕ). IsHeldAfter e.kind n context) (sym taken) (held-piece e.width e.kind h.t next.bytes context size h.held);
+      limited = next.agrees.agrees.limited;
     }
 
 -- the lines with those of one more event, whose bytes are in the input
 input-rows : (start depth : ℕ) (context : Context) (e : Event) (input all rest : List ℕ) (to : Option (List ℕ)) → Consumes (Some input) to all → e.place + event_size e ≤ length all
-    → IsHeldBehind e.kind (length all) context → event_rows start depth context e input ≡ event_rows start depth context e (all ++ rest)
+    → IsHeldAfter e.kind (length all) context → event_rows start depth context e input ≡ event_rows start depth context e (all ++ rest)
 input-rows start depth context e input all rest None h within held = absurd h
 input-rows start depth context e input all rest (Some ys) h within held =
     ap (event_rows start depth context e) h ∙ same-rows e.kind start depth context e all ys rest within held
@@ -224,14 +224,14 @@ rows-are : (start : ℕ) (m new : MachineView) (input : List ℕ) (now to old mi
     → (level_now m context e ≡ level_in item context e) × (rows_now start m context e input ≡ annotated_event start item context e)
 rows-are start m new input now to old mid written context kept piece e h next item rest i =
     let all = h.t ++ next.bytes in
-    let stands = event-stands start m new input now to old mid written context kept piece e h next in
-    let taken : new.taken ≡ length all = next.stands.stands.taken in
-    let opened : m.open_count ≡ open_after e.place item = h.between.stands.counted item (next.bytes ++ rest) i ∙ ap (λ (n : ℕ). open_after n item) (sym next.place) in
+    let agrees = event-agrees start m new input now to old mid written context kept piece e h next in
+    let taken : new.taken ≡ length all = next.agrees.agrees.taken in
+    let opened : m.open_count ≡ open_after e.place item = h.between.agrees.counted item (next.bytes ++ rest) i ∙ ap (λ (n : ℕ). open_after n item) (sym next.place) in
     let same : level_now m context e ≡ level_in item context e = ap (λ (n : ℕ). level n context e.kind) opened in
     let spelled : all ++ rest ≡ spell item = append_assoc h.t next.bytes rest ∙ sym i.bytes_are in (
       same,
-      input-rows start (level_now m context e) context e input all rest to (Consumes-trans (Some input) now to h.t next.bytes h.taken next.consumed) (omega (arith, stands.size, taken))
-          (subst (λ (n : ℕ). IsHeldBehind e.kind n context) taken stands.held)
+      input-rows start (level_now m context e) context e input all rest to (Consumes-trans (Some input) now to h.t next.bytes h.taken next.consumed) (omega (arith, agrees.size, taken))
+          (subst (λ (n : ℕ). IsHeldAfter e.kind n context) taken agrees.held)
           ∙ ap₂ (λ (n : ℕ) (bs : List ℕ). event_rows start n context e bs) same spelled,
     )
 
@@ -246,7 +246,7 @@ lines-more start m new input now to old mid written context kept piece e h next 
     let before = there m new h.t next.bytes same item rest i in
     let so_far = h.are_lines item (next.bytes ++ rest) before in
     let rows = rows-are start m new input now to old mid written context kept piece e h next item rest before in (
-      ap₂ (λ (xs ys : List ℕ). xs ++ ys) so_far.0 (rows.1 ∙ ap (λ (c : Context). annotated_event start item c e) so_far.1) ∙ sym (behind-more start item no_string h.reported e),
+      ap₂ (λ (xs ys : List ℕ). xs ++ ys) so_far.0 (rows.1 ∙ ap (λ (c : Context). annotated_event start item c e) so_far.1) ∙ sym (following-more start item no_string h.reported e),
       ap (λ (n : ℕ). context_after n e context) rows.0 ∙ ap (λ (c : Context). context_after (level_in item c e) e c) so_far.1 ∙ sym (context-more item no_string h.reported e),
     )
 
@@ -256,18 +256,18 @@ pub one-more : (start : ℕ) (m new : MachineView) (input : List ℕ) (now to ol
     → HasAnnotated start new input to old out more (context_after (level_now m context e) e context)
 one-more start m new input now to old mid out written more context kept piece e h next same wrote sum =
     let rows = rows_now start m context e input in
-    let stands = event-stands start m new input now to old mid written context kept piece e h next in
+    let agrees = event-agrees start m new input now to old mid written context kept piece e h next in
     record {
       t = h.t ++ next.bytes;
       marks = h.marks ++ marks_of e.width e.kind;
       reported = h.reported ++ e ∷ [];
       text = h.text ++ rows;
-      between = next.stands;
+      between = next.agrees;
       are_reported = next-more (machine_call m new now to kept piece h.t h.marks) h.reported e h.are_reported h.between next;
       taken = Consumes-trans (Some input) now to h.t next.bytes h.taken next.consumed;
       are_lines = lines-more start m new input now to old mid written context kept piece e h next same;
-      held = held-behind e.width e.kind h.t next.bytes (level_now m context e) (e.place + event_size e) context (size-is m new now to kept piece h.t h.marks e h.between next)
-          (sym stands.size ∙ next.stands.stands.taken) h.held;
+      held = held-following e.width e.kind h.t next.bytes (level_now m context e) (e.place + event_size e) context (size-is m new now to kept piece h.t h.marks e h.between next)
+          (sym agrees.size ∙ next.agrees.agrees.taken) h.held;
       annotated_so_far = Appends-trans old mid out h.text rows h.annotated_so_far wrote;
       count = omega (arith, length-append h.text rows, h.count, sum);
     }
@@ -281,29 +281,29 @@ all-annotated start m new input now to old out written count context kept piece 
     let s = whole.0 in
     let item : IsItem m.depth s (h.t ++ []) = subst (IsItem m.depth s) (sym (append-nil h.t)) whole.1 in
     known (Some input) now h.t (λ input. IsAnnotated start (bounds m.depth m.bytes) input count old out) h.taken
-    (λ rest k. let v = complete-verdict m h.t h.marks h.between.stands end.complete rest in record {
+    (λ rest k. let v = complete-verdict m h.t h.marks h.between.agrees end.complete rest in record {
       item = s;
       verdict = subst (λ (a : Spelling). IsVerdict (bounds m.depth m.bytes) form (h.t ++ rest) (accepted a)) (accepted-item (bounds m.depth m.bytes) h.t rest s whole.1 v.0 v.1) v.1;
-      size = e ∙ end.stands.stands.taken ∙ sym (ap length whole.1.bytes_are);
-      written = subst (Appends old out) ((h.are_lines s [] item).0 ∙ sym (joined-behind start s no_string h.reported) ∙ ap (annotated start s) whole.2) h.annotated_so_far;
+      size = e ∙ end.agrees.agrees.taken ∙ sym (ap length whole.1.bytes_are);
+      written = subst (Appends old out) ((h.are_lines s [] item).0 ∙ sym (joined-following start s no_string h.reported) ∙ ap (annotated start s) whole.2) h.annotated_so_far;
     })
 
 pub taken-within : (start : ℕ) (m new : MachineView) (input : List ℕ) (now to old out : Option (List ℕ)) (written count : ℕ) (context : Context) (kept piece : List ℕ) (h : HasAnnotated start m input now old out written context)
     → IsEnd (machine_call m new now to kept piece h.t h.marks) → count ≡ new.taken → count ≤ length input
 taken-within start m new input now to old out written count context kept piece h end e =
     let within = consumed-within input now h.t h.taken in
-    let size : count ≡ length h.t = e ∙ end.stands.stands.taken in
+    let size : count ≡ length h.t = e ∙ end.agrees.agrees.taken in
     omega (arith, within, size)
 
 -- ---- the item is refused
 
 -- the lines of what was consumed, with the bytes after the last event
 annotation-of : (start : ℕ) (m : MachineView) (input : List ℕ) (now old out : Option (List ℕ)) (written : ℕ) (context : Context) (h : HasAnnotated start m input now old out written context)
-    (at : MachineView) (bs : List ℕ) → at.depth ≡ m.depth → StandsFor at (h.t ++ bs) h.marks → IsAnnotation start at.depth (h.t ++ bs) h.text
-annotation-of start m input now old out written context h at bs same stands = record {
-  beginning = stands.beginning;
-  of_events = λ s rest i. (h.are_lines s (bs ++ rest) (there m at h.t bs same s rest i)).0 ∙ sym (joined-behind start s no_string h.reported)
-      ∙ ap (annotated start s) (reported-joined at (h.t ++ bs) h.marks h.reported stands h.are_reported s rest i);
+    (at : MachineView) (bs : List ℕ) → at.depth ≡ m.depth → Represents at (h.t ++ bs) h.marks → IsAnnotation start at.depth (h.t ++ bs) h.text
+annotation-of start m input now old out written context h at bs same agrees = record {
+  beginning = agrees.beginning;
+  of_events = λ s rest i. (h.are_lines s (bs ++ rest) (there m at h.t bs same s rest i)).0 ∙ sym (joined-following start s no_string h.reported)
+      ∙ ap (annotated start s) (reported-joined at (h.t ++ bs) h.marks h.reported agrees h.are_reported s rest i);
 }
 
 -- the first k bytes of an input are those consumed
@@ -316,7 +316,7 @@ cut-unannotated start m new input now to old out written context kept piece h f 
     let all = h.t ++ i.bytes in
     let size : f.read ≡ length all = ap (λ (r : Refusal). r.read) i.is in
     let place : f.place ≡ length all = ap (λ (r : Refusal). r.place) i.is in
-    let annotation : IsAnnotation start new.depth all h.text = annotation-of start m input now old out written context h new i.bytes same i.stands in
+    let annotation : IsAnnotation start new.depth all h.text = annotation-of start m input now old out written context h new i.bytes same i.agrees in
     known (Some input) to all (λ input. IsUnannotated start (bounds new.depth new.bytes) input f old out) (Consumes-trans (Some input) now to h.t i.bytes h.taken i.consumed)
     (λ rest k. elim i.reason [
       | inl failed ↦
@@ -343,7 +343,7 @@ long-unannotated start m new input now to old out written context kept piece h f
     let place : f.place ≡ length all = ap (λ (r : Refusal). r.place) i.is ∙ sym i.full in
     known (Some input) to all (λ input. IsUnannotated start (bounds new.depth new.bytes) input f old out) (Consumes-trans (Some input) now to h.t i.bytes h.taken i.consumed)
     (λ rest k. of_verdict h.text (i.verdict rest)
-    (prefix-annotated start new.depth f.place all rest h.text place (annotation-of start m input now old out written context h (before new (length all)) i.bytes same i.stands)) h.annotated_so_far)
+    (prefix-annotated start new.depth f.place all rest h.text place (annotation-of start m input now old out written context h (before new (length all)) i.bytes same i.agrees)) h.annotated_so_far)
 
 -- what was consumed, with the byte that is refused
 broken-taken : (start : ℕ) (m new : MachineView) (input : List ℕ) (now to old out : Option (List ℕ)) (written : ℕ) (context : Context) (kept piece : List ℕ) (h : HasAnnotated start m input now old out written context) (f : Refusal)
@@ -359,7 +359,7 @@ broken-unannotated start m new input now to old out written context kept piece h
     known (Some input) to (all ++ i.byte ∷ []) (λ input. IsUnannotated start (bounds new.depth new.bytes) input f old out) (broken-taken start m new input now to old out written context kept piece h f i)
     (λ rest k. of_verdict h.text (i.verdict rest)
     (subst (λ (xs : List ℕ). IsAnnotation start new.depth (take f.place xs) h.text) (sym (append_assoc all (i.byte ∷ []) rest))
-    (prefix-annotated start new.depth f.place all (i.byte ∷ rest) h.text place (annotation-of start m input now old out written context h (before new (length all)) i.bytes same i.stands))) h.annotated_so_far)
+    (prefix-annotated start new.depth f.place all (i.byte ∷ rest) h.text place (annotation-of start m input now old out written context h (before new (length all)) i.bytes same i.agrees))) h.annotated_so_far)
 
 pub refused-unannotated : (start : ℕ) (m new : MachineView) (input : List ℕ) (now to old out : Option (List ℕ)) (written : ℕ) (context : Context) (kept piece : List ℕ) (h : HasAnnotated start m input now old out written context) (f : Refusal)
     → new.depth ≡ m.depth → IsCut f (machine_call m new now to kept piece h.t h.marks) ⊎ IsTooLong f (machine_call m new now to kept piece h.t h.marks) ⊎ HasFormError f (machine_call m new now to kept piece h.t h.marks)
@@ -389,19 +389,19 @@ cuts-within : (start : ℕ) (m new : MachineView) (input : List ℕ) (now to old
     (h : HasAnnotated start m input now old mid written context) (next : IsNextEvent e (machine_call m new now to kept piece h.t h.marks)) (count : ℕ) → new.depth ≡ m.depth
     → count < length (rows_now start m context e input) → IsAnnotationCut start new.depth (h.t ++ next.bytes) (h.text ++ take count (rows_now start m context e input))
 cuts-within start m new input now to old mid written context kept piece e h next count same short =
-    let stands = event-stands start m new input now to old mid written context kept piece e h next in
+    let agrees = event-agrees start m new input now to old mid written context kept piece e h next in
     let so_far = λ (item : Spelling) (rest : List ℕ) (i : IsItem new.depth item ((h.t ++ next.bytes) ++ rest)).
     h.are_lines item (next.bytes ++ rest) (there m new h.t next.bytes same item rest i) in
     let rows = λ (item : Spelling) (rest : List ℕ) (i : IsItem new.depth item ((h.t ++ next.bytes) ++ rest)).
     (rows-are start m new input now to old mid written context kept piece e h next item rest (there m new h.t next.bytes same item rest i)).1
     ∙ ap (λ (c : Context). annotated_event start item c e) (so_far item rest i).1 in
     record {
-      beginning = next.stands.stands.beginning;
+      beginning = next.agrees.agrees.beginning;
       earlier = h.reported;
       last = e;
-      are = λ item rest i. reported-joined new (h.t ++ next.bytes) (h.marks ++ marks_of e.width e.kind) (h.reported ++ e ∷ []) next.stands.stands
+      are = λ item rest i. reported-joined new (h.t ++ next.bytes) (h.marks ++ marks_of e.width e.kind) (h.reported ++ e ∷ []) next.agrees.agrees
           (next-more (machine_call m new now to kept piece h.t h.marks) h.reported e h.are_reported h.between next) item rest i;
-      ends = sym stands.size ∙ next.stands.stands.taken;
+      ends = sym agrees.size ∙ next.agrees.agrees.taken;
       part = count;
       of_events = λ item rest i. (
         subst (λ (l : List ℕ). count < length l) (rows item rest i) short,
@@ -417,7 +417,7 @@ stopped-unannotated start m new input now to old mid out written count context k
     let all = h.t ++ next.bytes in
     let rows = rows_now start m context e input in
     let text = h.text ++ take count rows in
-    let read : f.read ≡ length all = ap (λ (r : Refusal). r.read) is ∙ next.stands.stands.taken in
+    let read : f.read ≡ length all = ap (λ (r : Refusal). r.read) is ∙ next.agrees.agrees.taken in
     let fits : count ≤ length rows = omega arith in
     let size : length text ≡ length h.text + count = length-append h.text (take count rows) ∙ ap (λ (n : ℕ). length h.text + n) (length-take-le count rows fits) in
     let place : min (written + count) (2 ^ 64 - 1) ≡ min (length text) (2 ^ 64 - 1) = omega (arith, size, h.count) in

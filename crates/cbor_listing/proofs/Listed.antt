@@ -11,9 +11,9 @@ use Rattle.cbor_head.specs.declared.event.EventKind.TheVariants.{Piece}
 use Rattle.theory_values.proofs.{Accepted.accepts_exactly, KindsUnasked.form_beside, ReadLaws.unique}
 use Rattle.theory_automaton.specs.{Trace.Mark, Trace.total, Marks.marks_of, Marks.IsProper, Reasons.IsEventReason, Event.joined, Event.AreReported}
 use Rattle.theory_automaton.proofs.{Joining.bytes-total, Rows.total-append}
-use Rattle.cbor_machine.specs.NextEvent.{machine_call, StandsBetween, IsNextEvent, IsEnd, IsCut, IsTooLong, HasFormError}
+use Rattle.cbor_machine.specs.NextEvent.{machine_call, AgreesBetween, IsNextEvent, IsEnd, IsCut, IsTooLong, HasFormError}
 use Rattle.cbor_machine.proofs.Reported.{reported-none, reported-joined, next-more, next-all}
-use Rattle.cbor_machine.{specs.Machine.StandsFor, specs.Machine.before, specs.MachineView.MachineView, proofs.Form.complete-verdict}
+use Rattle.cbor_machine.{specs.Machine.Represents, specs.Machine.before, specs.MachineView.MachineView, proofs.Form.complete-verdict}
 use Rattle.theory_verdicts.specs.Readers.{Loses}
 use Rattle.cbor_listing.specs.Listing.{line, lines, IsListing, IsStopped, IsListed, IsUnlisted, IsListingReason, of_verdict, of_reader, of_writer}
 use Rattle.cbor_listing.proofs.Lines.{lines-more, lines-joined, has-line, joined-last}
@@ -23,13 +23,13 @@ pub record HasListed (start : ℕ) (m : MachineView) (from now old new : Option 
   pub t : List ℕ
   pub marks : List Mark
   pub reported : List Event
-  pub between : StandsBetween m t marks
+  pub between : AgreesBetween m t marks
   pub are_reported : AreReported reported marks
   pub taken : Consumes from now t
   pub listed : Appends old new (lines start reported)
   pub count : written ≡ min (length (lines start reported)) (2 ^ 64 - 1)
 
-pub none-listed : (start : ℕ) (m : MachineView) (from old : Option (List ℕ)) → StandsBetween m [] [] → HasListed start m from from old old 0
+pub none-listed : (start : ℕ) (m : MachineView) (from old : Option (List ℕ)) → AgreesBetween m [] [] → HasListed start m from from old old 0
 none-listed start m from old s = record { t = []; marks = []; reported = []; between = s; are_reported = reported-none; taken = Consumes-nil from; listed = Appends-nil old; count = refl }
 
 pub one-more : (start : ℕ) (m new : MachineView) (from now to old mid out : Option (List ℕ)) (written more : ℕ) (kept piece : List ℕ) (e : Event) (h : HasListed start m from now old mid written)
@@ -40,7 +40,7 @@ one-more start m new from now to old mid out written more kept piece e h next wr
       t = h.t ++ next.bytes;
       marks = h.marks ++ marks_of e.width e.kind;
       reported = h.reported ++ e ∷ [];
-      between = next.stands;
+      between = next.agrees;
       are_reported = next-more (machine_call m new now to kept piece h.t h.marks) h.reported e h.are_reported h.between next;
       taken = Consumes-trans from now to h.t next.bytes h.taken next.consumed;
       listed = subst (Appends old out) (sym (lines-more start h.reported e)) (Appends-trans old mid out (lines start h.reported) (line start e) h.listed wrote);
@@ -53,19 +53,19 @@ some-marks : (w : Width) (k : EventKind) → IsProper w k → 0 < total (marks_o
 some-marks w (Piece n) h = let size = bytes-total n in let some = h.1 in omega (arith, size, some)
 some-marks w _ h = omega arith
 
-pub takes-more : (m new : MachineView) (now to : Option (List ℕ)) (kept piece t : List ℕ) (ms : List Mark) (e : Event) → StandsBetween m t ms
+pub takes-more : (m new : MachineView) (now to : Option (List ℕ)) (kept piece t : List ℕ) (ms : List Mark) (e : Event) → AgreesBetween m t ms
     → IsNextEvent e (machine_call m new now to kept piece t ms) → (m.taken < new.taken) × (new.taken ≤ new.bytes)
 takes-more m new now to kept piece t ms e s next =
     let some = some-marks e.width e.kind next.are.0 in
     let sum = total-append ms (marks_of e.width e.kind) in
-    (omega (arith, some, sum, s.stands.taken, s.whole, next.stands.stands.taken, next.stands.whole), next.stands.stands.limited)
+    (omega (arith, some, sum, s.agrees.taken, s.whole, next.agrees.agrees.taken, next.agrees.whole), next.agrees.agrees.limited)
 
 -- the offset of the next event is within the limit
-pub place-within : (m new : MachineView) (now to : Option (List ℕ)) (kept piece t : List ℕ) (ms : List Mark) (e : Event) → StandsBetween m t ms
+pub place-within : (m new : MachineView) (now to : Option (List ℕ)) (kept piece t : List ℕ) (ms : List Mark) (e : Event) → AgreesBetween m t ms
     → IsNextEvent e (machine_call m new now to kept piece t ms) → e.place ≤ new.bytes
 place-within m new now to kept piece t ms e s next =
     let more = takes-more m new now to kept piece t ms e s next in
-    omega (arith, more, next.place, s.stands.taken)
+    omega (arith, more, next.place, s.agrees.taken)
 
 -- ---- what was read from the reader
 
@@ -99,24 +99,24 @@ all-listed start m new from now to old out written count kept piece h end e =
     let whole = next-all (machine_call m new now to kept piece h.t h.marks) h.reported h.are_reported h.between end in
     let s = whole.0 in
     known from now h.t (λ input. IsListed start (bounds m.depth m.bytes) input count old out) h.taken
-    (λ rest k. let v = complete-verdict m h.t h.marks h.between.stands end.complete rest in record {
+    (λ rest k. let v = complete-verdict m h.t h.marks h.between.agrees end.complete rest in record {
       item = s;
       verdict = subst (λ (a : Spelling). IsVerdict (bounds m.depth m.bytes) form (h.t ++ rest) (accepted a)) (accepted-item (bounds m.depth m.bytes) h.t rest s whole.1 v.0 v.1) v.1;
-      size = e ∙ end.stands.stands.taken ∙ sym (ap length whole.1.bytes_are);
+      size = e ∙ end.agrees.agrees.taken ∙ sym (ap length whole.1.bytes_are);
       written = subst (Appends old out) (sym (lines-joined start h.reported) ∙ ap (lines start) whole.2) h.listed;
     })
 
 pub all-lost : (start : ℕ) (m new : MachineView) (from now to old out : Option (List ℕ)) (written count : ℕ) (kept piece : List ℕ) (h : HasListed start m from now old out written)
     → IsEnd (machine_call m new now to kept piece h.t h.marks) → count ≡ new.taken → Loses count from to
 all-lost start m new from now to old out written count kept piece h end e =
-    loses (h.t ++ []) count from to (e ∙ end.stands.stands.taken ∙ ap length (sym (append-nil h.t))) (Consumes-trans from now to h.t [] h.taken end.consumed)
+    loses (h.t ++ []) count from to (e ∙ end.agrees.agrees.taken ∙ ap length (sym (append-nil h.t))) (Consumes-trans from now to h.t [] h.taken end.consumed)
 
 -- ---- the item is refused
 
-listing-of : (start : ℕ) (m : MachineView) (t : List ℕ) (ms : List Mark) (es : List Event) → StandsFor m t ms → AreReported es ms → IsListing start m.depth t (lines start es)
-listing-of start m t ms es stands reported = record {
-  beginning = stands.beginning;
-  of_events = λ s rest i. sym (lines-joined start es) ∙ ap (lines start) (reported-joined m t ms es stands reported s rest i);
+listing-of : (start : ℕ) (m : MachineView) (t : List ℕ) (ms : List Mark) (es : List Event) → Represents m t ms → AreReported es ms → IsListing start m.depth t (lines start es)
+listing-of start m t ms es agrees reported = record {
+  beginning = agrees.beginning;
+  of_events = λ s rest i. sym (lines-joined start es) ∙ ap (lines start) (reported-joined m t ms es agrees reported s rest i);
 }
 
 -- the first k bytes of an input are those consumed
@@ -129,7 +129,7 @@ cut-unlisted start m new from now to old out written kept piece h f i =
     let all = h.t ++ i.bytes in
     let size : f.read ≡ length all = ap (λ (r : Refusal). r.read) i.is in
     let place : f.place ≡ length all = ap (λ (r : Refusal). r.place) i.is in
-    let listing : IsListing start new.depth all (lines start h.reported) = listing-of start new all h.marks h.reported i.stands h.are_reported in
+    let listing : IsListing start new.depth all (lines start h.reported) = listing-of start new all h.marks h.reported i.agrees h.are_reported in
     known from to all (λ input. IsUnlisted start (bounds new.depth new.bytes) input f old out) (Consumes-trans from now to h.t i.bytes h.taken i.consumed)
     (λ rest k. elim i.reason [
       | inl failed ↦
@@ -156,7 +156,7 @@ long-unlisted start m new from now to old out written kept piece h f i =
     let place : f.place ≡ length all = ap (λ (r : Refusal). r.place) i.is ∙ sym i.full in
     known from to all (λ input. IsUnlisted start (bounds new.depth new.bytes) input f old out) (Consumes-trans from now to h.t i.bytes h.taken i.consumed)
     (λ rest k. of_verdict (lines start h.reported) (i.verdict rest)
-    (prefix-listed start new.depth f.place all rest (lines start h.reported) place (listing-of start (before new (length all)) all h.marks h.reported i.stands h.are_reported)) h.listed)
+    (prefix-listed start new.depth f.place all rest (lines start h.reported) place (listing-of start (before new (length all)) all h.marks h.reported i.agrees h.are_reported)) h.listed)
 
 -- what was consumed, with the byte that is refused
 broken-taken : (start : ℕ) (m new : MachineView) (from now to old out : Option (List ℕ)) (written : ℕ) (kept piece : List ℕ) (h : HasListed start m from now old out written) (f : Refusal) (i : HasFormError f (machine_call m new now to kept piece h.t h.marks))
@@ -172,7 +172,7 @@ broken-unlisted start m new from now to old out written kept piece h f i =
     known from to (all ++ i.byte ∷ []) (λ input. IsUnlisted start (bounds new.depth new.bytes) input f old out) (broken-taken start m new from now to old out written kept piece h f i)
     (λ rest k. of_verdict (lines start h.reported) (i.verdict rest)
     (subst (λ (xs : List ℕ). IsListing start new.depth (take f.place xs) (lines start h.reported)) (sym (append_assoc all (i.byte ∷ []) rest))
-    (prefix-listed start new.depth f.place all (i.byte ∷ rest) (lines start h.reported) place (listing-of start (before new (length all)) all h.marks h.reported i.stands h.are_reported))) h.listed)
+    (prefix-listed start new.depth f.place all (i.byte ∷ rest) (lines start h.reported) place (listing-of start (before new (length all)) all h.marks h.reported i.agrees h.are_reported))) h.listed)
 
 pub refused-unlisted : (start : ℕ) (m new : MachineView) (from now to old out : Option (List ℕ)) (written : ℕ) (kept piece : List ℕ) (h : HasListed start m from now old out written) (f : Refusal)
     → IsCut f (machine_call m new now to kept piece h.t h.marks) ⊎ IsTooLong f (machine_call m new now to kept piece h.t h.marks) ⊎ HasFormError f (machine_call m new now to kept piece h.t h.marks) → IfSome from (λ input. IsUnlisted start (bounds new.depth new.bytes) input f old out)
@@ -195,17 +195,17 @@ refused-lost start m new from now to old out written kept piece h f (inr (inr i)
 abbrev stopped_lines : ℕ → List Event → Event → ℕ → List ℕ
 stopped_lines start es e n = lines start es ++ take n (line start e)
 
-stops-within : (start : ℕ) (m new : MachineView) (now to : Option (List ℕ)) (kept piece t : List ℕ) (ms : List Mark) (es : List Event) (e : Event) (count : ℕ) → StandsBetween m t ms → AreReported es ms
+stops-within : (start : ℕ) (m new : MachineView) (now to : Option (List ℕ)) (kept piece t : List ℕ) (ms : List Mark) (es : List Event) (e : Event) (count : ℕ) → AgreesBetween m t ms → AreReported es ms
     → (next : IsNextEvent e (machine_call m new now to kept piece t ms)) → count < length (line start e) → IsStopped start new.depth (t ++ next.bytes) (stopped_lines start es e count)
 stops-within start m new now to kept piece t ms es e count s reported next short =
     let sum = total-append ms (marks_of e.width e.kind) in
     record {
-      beginning = next.stands.stands.beginning;
+      beginning = next.agrees.agrees.beginning;
       earlier = joined es;
       last = e;
-      of_events = λ item rest i. sym (reported-joined new (t ++ next.bytes) (ms ++ marks_of e.width e.kind) (es ++ e ∷ []) next.stands.stands (next-more (machine_call m new now to kept piece t ms) es e reported s next) item rest i)
+      of_events = λ item rest i. sym (reported-joined new (t ++ next.bytes) (ms ++ marks_of e.width e.kind) (es ++ e ∷ []) next.agrees.agrees (next-more (machine_call m new now to kept piece t ms) es e reported s next) item rest i)
           ∙ joined-last es e (has-line start e count short);
-      ends = omega (arith, sum, s.whole, next.place, next.stands.whole);
+      ends = omega (arith, sum, s.whole, next.place, next.agrees.whole);
       part = count;
       within = short;
       is = ap (λ l. l ++ take count (line start e)) (sym (lines-joined start es));
@@ -216,7 +216,7 @@ pub stopped-unlisted : (start : ℕ) (m new : MachineView) (from now to old mid 
     → IfSome from (λ input. IsUnlisted start (bounds new.depth new.bytes) input f old out)
 stopped-unlisted start m new from now to old mid out written count kept piece e h f next short wrote is =
     let all = h.t ++ next.bytes in
-    let read : f.read ≡ length all = ap (λ (r : Refusal). r.read) is ∙ next.stands.stands.taken in
+    let read : f.read ≡ length all = ap (λ (r : Refusal). r.read) is ∙ next.agrees.agrees.taken in
     let fits : count ≤ length (line start e) = omega arith in
     let size : length (stopped_lines start h.reported e count) ≡ length (lines start h.reported) + count = length-append (lines start h.reported) (take count (line start e)) ∙ ap (λ n. length (lines start h.reported) + n) (length-take-le count (line start e) fits) in
     let place : min (written + count) (2 ^ 64 - 1) ≡ min (length (stopped_lines start h.reported e count)) (2 ^ 64 - 1) = omega (arith, size, h.count) in
@@ -230,7 +230,7 @@ stopped-unlisted start m new from now to old mid out written count kept piece e 
 pub stopped-lost : (start : ℕ) (m new : MachineView) (from now to old mid : Option (List ℕ)) (written : ℕ) (kept piece : List ℕ) (e : Event) (h : HasListed start m from now old mid written) (n : ℕ)
     → IsNextEvent e (machine_call m new now to kept piece h.t h.marks) → n ≡ new.taken → Loses n from to
 stopped-lost start m new from now to old mid written kept piece e h n next is =
-    loses (h.t ++ next.bytes) n from to (is ∙ next.stands.stands.taken) (Consumes-trans from now to h.t next.bytes h.taken next.consumed)
+    loses (h.t ++ next.bytes) n from to (is ∙ next.agrees.agrees.taken) (Consumes-trans from now to h.t next.bytes h.taken next.consumed)
 
 -- ---- the reasons
 

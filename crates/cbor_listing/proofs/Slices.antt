@@ -2,11 +2,11 @@
 use Rattle.std.proofs.Common.{◌≡◌, ℕ, ◌+◌, ◌-◌, List, [], ◌++◌, length, length-drop, take, take_all, drop, drop-drop, take-append-drop, Option, Some, sym, ap, ◌∙◌, arith, append-nil, subst}
 use Rattle.std.{specs.Io.KnownBytes.Consumes, proofs.KnownBytes.Consumes-nil}
 use Rattle.theory_automaton.specs.Trace.{Mark}
-use Rattle.cbor_machine.specs.{MachineView.MachineView, Machine.StandsFor, Calls.HasRead}
+use Rattle.cbor_machine.specs.{MachineView.MachineView, Machine.Represents, Calls.HasRead}
 
 -- a call that has consumed nothing yet
-pub nothing-read : (from : Option (List ℕ)) (m : MachineView) (t : List ℕ) (ms : List Mark) → StandsFor m t ms → HasRead from from m t ms
-nothing-read from m t ms h = record { bytes = []; consumed = Consumes-nil from; stands = subst (λ xs. StandsFor m xs ms) (sym (append-nil t)) h }
+pub nothing-read : (from : Option (List ℕ)) (m : MachineView) (t : List ℕ) (ms : List Mark) → Represents m t ms → HasRead from from m t ms
+nothing-read from m t ms h = record { bytes = []; consumed = Consumes-nil from; agrees = subst (λ xs. Represents m xs ms) (sym (append-nil t)) h }
 
 -- the bytes after those that were consumed
 pub left-over : (xs : List ℕ) (old used new : ℕ) → new ≡ old + used → Consumes (Some (drop old xs)) (Some (drop new xs)) (take used (drop old xs))

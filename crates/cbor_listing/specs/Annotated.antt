@@ -130,22 +130,22 @@ level_in item context e = level (open_after e.place item) context e.kind
 abbrev pub annotated_event : ℕ → Spelling → Context → Event → List ℕ
 annotated_event start item context e = event_rows start (level_in item context e) context e (spell item)
 
-abbrev pub annotated_behind : ℕ → Spelling → Context → List Event → List ℕ
-annotated_behind start item context [] = []
-annotated_behind start item context (e ∷ es) =
-    annotated_event start item context e ++ annotated_behind start item (context_after (level_in item context e) e context) es
+abbrev pub annotated_events : ℕ → Spelling → Context → List Event → List ℕ
+annotated_events start item context [] = []
+annotated_events start item context (e ∷ es) =
+    annotated_event start item context e ++ annotated_events start item (context_after (level_in item context e) e context) es
 
 -- before any event
 abbrev pub no_string : Context
 no_string = record { is_text = false; in_chunks = false; level = 0; begun = 0; size = 0; left = 0 }
 
-abbrev pub context_behind : Spelling → Context → List Event → Context
-context_behind item context [] = context
-context_behind item context (e ∷ es) = context_behind item (context_after (level_in item context e) e context) es
+abbrev pub context_after_events : Spelling → Context → List Event → Context
+context_after_events item context [] = context
+context_after_events item context (e ∷ es) = context_after_events item (context_after (level_in item context e) e context) es
 
 -- the lines of the first of an item's events
 abbrev pub annotated : ℕ → Spelling → List Event → List ℕ
-annotated start item es = annotated_behind start item no_string es
+annotated start item es = annotated_events start item no_string es
 
 -- ---- what was written
 
@@ -163,8 +163,8 @@ pub record IsAnnotationCut (start d : ℕ) (t out : List ℕ) : Type 0 where
   pub ends : last.place + event_size last ≡ length t
   pub part : ℕ
   pub of_events : (s : Spelling) (rest : List ℕ) → IsItem d s (t ++ rest)
-      → (part < length (annotated_event start s (context_behind s no_string earlier) last))
-      × (out ≡ annotated start s earlier ++ take part (annotated_event start s (context_behind s no_string earlier) last))
+      → (part < length (annotated_event start s (context_after_events s no_string earlier) last))
+      × (out ≡ annotated start s earlier ++ take part (annotated_event start s (context_after_events s no_string earlier) last))
 
 -- the item at the start of the bytes b, at offset start, is accepted, and all its lines were written
 pub record IsAnnotated (start : ℕ) (limits : Bounds) (b : List ℕ) (count : ℕ) (old new : Option (List ℕ)) : Type 0 where

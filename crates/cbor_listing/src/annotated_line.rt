@@ -9,7 +9,7 @@ ghost use Rattle.theory_automaton.specs.Marks.{count_of};
 ghost use Rattle.cbor_listing.specs.Annotated.{row_start, spaces, visible, content, payload_row, payload_rows};
 ghost use Rattle.cbor_listing.specs.Annotated.{payload_text, ends_payload, event_rows, context_by, no_string, level};
 ghost use Rattle.cbor_listing.specs.Annotated.{string_context as spec_of_string};
-ghost use Rattle.cbor_listing.specs.inner.Annotated.{IsShortHead, IsHeldBehind};
+ghost use Rattle.cbor_listing.specs.inner.Annotated.{IsShortHead, IsHeldAfter};
 
 use crate::event_meaning::push_meaning;
 use crate::line::{push, push_number, push_spaces};
@@ -157,7 +157,7 @@ pub(crate) fn set_rows(
     requires within { taken ≤ length input.now }
     requires size { taken ≡ event.now.place + event_size event.now }
     requires short { IsShortHead event.now.kind (event_size event.now) }
-    requires held { IsHeldBehind event.now.kind taken context }
+    requires held { IsHeldAfter event.now.kind taken context }
     ensures { rows.new.items ≡ event_rows start level context event.now input.now }
 {
     rows.clear();

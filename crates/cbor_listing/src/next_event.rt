@@ -5,7 +5,7 @@ ghost use Rattle.cbor_head.specs.declared.reason.Reason.TheVariants as reasons;
 ghost use Rattle.theory_automaton.specs.Trace.{Mark};
 ghost use Rattle.theory_automaton.specs.Reasons.{IsEventReason};
 ghost use Rattle.cbor_machine.specs.Machine.{KeepsLimits};
-ghost use Rattle.cbor_machine.specs.NextEvent.{StandsBetween, IsNext, machine_call};
+ghost use Rattle.cbor_machine.specs.NextEvent.{AgreesBetween, IsNext, machine_call};
 ghost use Rattle.cbor_machine.specs.Calls.{piece_after};
 
 use cbor_head::{Event, Reason, Refusal};
@@ -14,7 +14,7 @@ use cbor_machine::{Machine, Out, below_256, take_part};
 // The next event of the item that starts with these bytes. The machine has consumed the first of them.
 pub(crate) fn next_event(machine: &mut Machine, bytes: &[u8]) -> Result<Option<Event>, Refusal>
     requires { machine.old.taken ≤ length bytes.now }
-    ensures answers { (t : List ℕ) (ms : List Mark) → StandsBetween machine.old t ms
+    ensures returned { (t : List ℕ) (ms : List Mark) → AgreesBetween machine.old t ms
         → IsNext result (machine_call machine.old machine.new
         (Some (drop machine.old.taken bytes.now)) (Some (drop machine.new.taken bytes.now))
         [] (piece_after result [] (drop machine.old.taken bytes.now)) t ms) }

@@ -26,7 +26,7 @@ cut-as f c piece h = record {
   is = h.is;
   verdict = h.verdict;
   short = h.short;
-  stands = h.stands;
+  agrees = h.agrees;
   unfinished = h.unfinished;
 }
 
@@ -37,7 +37,7 @@ too_long-as f c piece h = record {
   is = h.is;
   full = h.full;
   verdict = h.verdict;
-  stands = h.stands;
+  agrees = h.agrees;
   unfinished = h.unfinished;
 }
 
@@ -49,7 +49,7 @@ form_error-as f c piece h = record {
   is = h.is;
   cannot_follow = h.cannot_follow;
   verdict = h.verdict;
-  stands = h.stands;
+  agrees = h.agrees;
   unfinished = h.unfinished;
 }
 
@@ -63,16 +63,16 @@ pub refused-call : (f : Refusal) (from same to : ItemEventsView) (held left : Op
     → IsNext (Err f) (machine_call from.machine to.machine held left from.piece piece t ms) → IsNext (Err f) (call same to held left t ms)
 refused-call f from same to held left piece t ms e h = subst (λ (v : ItemEventsView). IsNext (Err f) (call v to held left t ms)) e (refusal-as f (machine_call from.machine to.machine held left from.piece piece t ms) to.piece h)
 
-pub head-answer : (r : Result (Option Event) Refusal) (from to : Option (List ℕ)) (old new : MachineView) (kept buffer t : List ℕ) (ms : List Mark) → old.in_payload ≡ false
+pub head-outcome : (r : Result (Option Event) Refusal) (from to : Option (List ℕ)) (old new : MachineView) (kept buffer t : List ℕ) (ms : List Mark) → old.in_payload ≡ false
     → IsNext r (machine_call old new from to kept (piece_after r kept buffer) t ms) → IsNext r (machine_call old new from to kept kept t ms)
-head-answer (Ok (Some e)) from to old new kept buffer t ms p h = subst (λ x. IsNextEvent e (machine_call old new from to kept x t ms)) (head-kept old.in_payload e.kind kept buffer p h.expected) h
-head-answer (Ok None) from to old new kept buffer t ms p h = h
-head-answer (Err f) from to old new kept buffer t ms p h = h
+head-outcome (Ok (Some e)) from to old new kept buffer t ms p h = subst (λ x. IsNextEvent e (machine_call old new from to kept x t ms)) (head-kept old.in_payload e.kind kept buffer p h.expected) h
+head-outcome (Ok None) from to old new kept buffer t ms p h = h
+head-outcome (Err f) from to old new kept buffer t ms p h = h
 
-pub payload-answer : (r : Result (Option Event) Refusal) (from to : Option (List ℕ)) (old new : MachineView) (kept buffer t : List ℕ) (ms : List Mark) (held : ℕ) → IsShown old → old.in_payload ≡ true → held ≡ piece_size r
+pub payload-outcome : (r : Result (Option Event) Refusal) (from to : Option (List ℕ)) (old new : MachineView) (kept buffer t : List ℕ) (ms : List Mark) (held : ℕ) → IsShown old → old.in_payload ≡ true → held ≡ piece_size r
     → IsNext r (machine_call old new from to kept (piece_after r kept buffer) t ms) → IsNext r (machine_call old new from to kept (take held buffer) t ms)
-payload-answer (Ok (Some e)) from to old new kept buffer t ms held shown p size h =
+payload-outcome (Ok (Some e)) from to old new kept buffer t ms held shown p size h =
     subst (λ x. IsNextEvent e (machine_call old new from to kept x t ms)) (payload-kept old.in_payload e.kind kept buffer p h.expected ∙ ap (λ n. take n buffer) (sym size)) h
-payload-answer (Ok None) from to old new kept buffer t ms held shown p size h =
+payload-outcome (Ok None) from to old new kept buffer t ms held shown p size h =
     absurd (no-payload-done old.inner.position (sym shown.in_payload ∙ p) (sym shown.complete ∙ h.complete.0))
-payload-answer (Err f) from to old new kept buffer t ms held shown p size h = refusal-as f _ (take held buffer) h
+payload-outcome (Err f) from to old new kept buffer t ms held shown p size h = refusal-as f _ (take held buffer) h

@@ -85,15 +85,15 @@ ends-here outer h top below to some at r e is c =
 
 -- ---- one of them, from the outermost in
 
-behind-all : (os : List Level) (k : ℕ) (top : Level) → k ≤ length os → slice_get (map level_frame (take k os ++ top ∷ [])) k ≡ Some (level_frame top)
-behind-all os zero top h = refl
-behind-all [] (suc k) top h = absurd (omega arith)
-behind-all (o ∷ os) (suc k) top h = behind-all os k top (omega arith)
+following-all : (os : List Level) (k : ℕ) (top : Level) → k ≤ length os → slice_get (map level_frame (take k os ++ top ∷ [])) k ≡ Some (level_frame top)
+following-all os zero top h = refl
+following-all [] (suc k) top h = absurd (omega arith)
+following-all (o ∷ os) (suc k) top h = following-all os k top (omega arith)
 
 pub frame-innermost : (outer : List Level) (h i : ℕ) (top : Level) → h ≡ i + 1 → h ≤ length outer → slice_get (nested outer h top) i ≡ Some (level_frame top)
 frame-innermost outer zero i top e h = absurd (omega arith)
 frame-innermost [] (suc k) i top e h = absurd (omega arith)
-frame-innermost (o ∷ os) (suc k) i top e h = let same : k ≡ i = omega arith in subst (λ j. slice_get (nested (o ∷ os) (suc k) top) j ≡ Some (level_frame top)) same (behind-all os k top (omega arith))
+frame-innermost (o ∷ os) (suc k) i top e h = let same : k ≡ i = omega arith in subst (λ j. slice_get (nested (o ∷ os) (suc k) top) j ≡ Some (level_frame top)) same (following-all os k top (omega arith))
 
 -- ---- the two arrays as levels
 

@@ -2,22 +2,22 @@
 use Rattle.std.proofs.Common.{◌≡◌, ℕ, ◌+◌, ◌-◌, ◌≤◌, List, [], ◌++◌, length, take, drop, ap, sym, ◌∙◌, arith, append-nil, append_assoc, subst, length-drop, take-append-drop, take_all}
 use Rattle.std.proofs.Math.Seq.{take-add, take-length}
 use Rattle.theory_automaton.specs.Trace.{Mark}
-use Rattle.cbor_machine.specs.Machine.{StandsFor, IsAnswer, IsMore}
+use Rattle.cbor_machine.specs.Machine.{Represents, IsResult, IsMore}
 use Rattle.cbor_machine.specs.declared.step.Out.TheVariants as outs
 use Rattle.cbor_machine.specs.{MachineView.MachineView, Steps.Goes, declared.step.Out.Out}
 
-pub goes-on : (old mid new : MachineView) (xs ys all : List ℕ) (added : List Mark) → Goes old mid xs → ((t : List ℕ) (ms : List Mark) → StandsFor mid t ms → StandsFor new (t ++ ys) (ms ++ added)) → xs ++ ys ≡ all → Goes old new all
+pub goes-on : (old mid new : MachineView) (xs ys all : List ℕ) (added : List Mark) → Goes old mid xs → ((t : List ℕ) (ms : List Mark) → Represents mid t ms → Represents new (t ++ ys) (ms ++ added)) → xs ++ ys ≡ all → Goes old new all
 goes-on old mid new xs ys all added g next e = λ t ms h.
     let first = g t ms h in
     let ns = first.0 in
     let last = next (t ++ xs) (ms ++ ns) first.1 in
     let bytes : (t ++ xs) ++ ys ≡ t ++ all = append_assoc t xs ys ∙ ap (λ zs. t ++ zs) e in
-    let last' = subst (λ (zs : List ℕ). StandsFor new zs ((ms ++ ns) ++ added)) bytes last in
-    (ns ++ added, subst (λ (zs : List Mark). StandsFor new (t ++ all) zs) (append_assoc ms ns added) last')
+    let last' = subst (λ (zs : List ℕ). Represents new zs ((ms ++ ns) ++ added)) bytes last in
+    (ns ++ added, subst (λ (zs : List Mark). Represents new (t ++ all) zs) (append_assoc ms ns added) last')
 
-pub more-answers : (out : Out) (m : MachineView) (t bs : List ℕ) (ms : List Mark) → IsMore out → IsAnswer out m t bs ms → StandsFor m (t ++ bs) (ms ++ [])
-more-answers outs.More m t bs ms i a = subst (λ (ns : List Mark). StandsFor m (t ++ bs) ns) (sym (append-nil ms)) a
-more-answers _ m t bs ms i a = absurd i
+pub more-returned : (out : Out) (m : MachineView) (t bs : List ℕ) (ms : List Mark) → IsMore out → IsResult out m t bs ms → Represents m (t ++ bs) (ms ++ [])
+more-returned outs.More m t bs ms i a = subst (λ (ns : List Mark). Represents m (t ++ bs) ns) (sym (append-nil ms)) a
+more-returned _ m t bs ms i a = absurd i
 
 pub split-at : (at used : ℕ) (xs : List ℕ) → take at xs ++ take used (drop at xs) ≡ take (at + used) xs
 split-at at used xs = sym (take-add at used xs)

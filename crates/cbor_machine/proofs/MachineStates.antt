@@ -13,13 +13,13 @@ use Rattle.theory_automaton.{specs.Trace.Mark, specs.Trace.total, specs.Marks.ma
 use Rattle.theory_automaton.{proofs.Longest.longest, proofs.Tiling.last-bytes, specs.Bytes.IsEventBytes}
 use Rattle.cbor_machine.specs.State.{state_of, is_done, IsFit, IsSettled}
 use Rattle.cbor_machine.specs.declared.position.Position.TheVariants.{Head, SimpleNumber, Done}
-use Rattle.cbor_machine.specs.Machine.{IsWhole, StandsFor, IsGiven, before, IsRefused, IsAnswer}
+use Rattle.cbor_machine.specs.Machine.{IsWhole, Represents, IsGiven, before, IsRefused, IsResult}
 use Rattle.cbor_machine.specs.Steps.{Ran, Stopped, IsStep}
 use Rattle.cbor_machine.specs.declared.step.Out.TheVariants as outs
 use Rattle.cbor_machine.specs.{Feed.IsWalked, declared.frame.Frame.Frame, declared.position.Position.Position, declared.feed.FeedResult.FeedResult}
 use Rattle.cbor_machine.specs.{declared.feed.FeedResult.TheVariants.Refused, inner.Machine.IsShown, MachineView.MachineView, declared.step.Out.Out}
 pub use Rattle.theory_values.proofs.ByteLists.{bytes_take}
-use Rattle.theory_automaton.proofs.Runs.{take-behind, run-on, silent-unfinished, sane-run, tiles}
+use Rattle.theory_automaton.proofs.Runs.{take-following, run-on, silent-unfinished, sane-run, tiles}
 use Rattle.theory_automaton.proofs.Opens.{stack, opens}
 use Rattle.cbor_machine.proofs.{Frames.length_frames, Positions.position-done}
 
@@ -71,7 +71,7 @@ sound-before : (m : MachineView) (n : ℕ) → IsSound m → IsSound (before m n
 sound-before m n h = record { shown = shown-before m n h.shown; empty = h.empty }
 
 pub meant : (m : MachineView) (t : List ℕ) (ms : List Mark) → AreBytes t → run m.depth start t ≡ reached (state_of m.inner.position m.inner.frames) ms
-    → IsSound m → m.open_count ≤ m.depth → m.taken ≡ length t → m.taken ≤ m.bytes → m.reported ≡ total ms → m.refusal ≡ None → StandsFor m t ms
+    → IsSound m → m.open_count ≤ m.depth → m.taken ≡ length t → m.taken ≤ m.bytes → m.reported ≡ total ms → m.refusal ≡ None → Represents m t ms
 meant m t ms b e sound bounded taken limited next live = record {
   beginning = reached-begins m.depth t (state_of m.inner.position m.inner.frames) ms b e;
   reported = λ s rest i. events.reported m.depth s t rest (state_of m.inner.position m.inner.frames) ms i e;
@@ -98,15 +98,15 @@ not-whole d t q ms e u = λ w.
 
 -- ---- what a step means
 
-module _ (old new : MachineView) (t bs : List ℕ) (ms ns : List Mark) (h : StandsFor old t ms) (b : AreBytes bs) (depth : new.depth ≡ old.depth) (sound : IsSound new) (r : Ran old new bs ns) where
+module _ (old new : MachineView) (t bs : List ℕ) (ms ns : List Mark) (h : Represents old t ms) (b : AreBytes bs) (depth : new.depth ≡ old.depth) (sound : IsSound new) (r : Ran old new bs ns) where
   on : run new.depth start (t ++ bs) ≡ reached (state_of new.inner.position new.inner.frames) (ms ++ ns)
   on = ap (λ d. run d start (t ++ bs)) depth ∙ run-on old.depth t bs (state_of old.inner.position old.inner.frames) (state_of new.inner.position new.inner.frames) ms ns h.inner.ran r.ran
 
   all-taken : new.taken ≡ length (t ++ bs)
   all-taken = r.taken ∙ ap (λ n. n + length bs) h.taken ∙ sym (length-append t bs)
 
-  stands-on : new.open_count ≤ new.depth → new.taken ≤ new.bytes → new.refusal ≡ None → new.reported ≡ total (ms ++ ns) → StandsFor new (t ++ bs) (ms ++ ns)
-  stands-on bounded limited live next = meant new (t ++ bs) (ms ++ ns) (bytes_join t bs h.are_bytes b) on sound bounded all-taken limited next live
+  agrees-on : new.open_count ≤ new.depth → new.taken ≤ new.bytes → new.refusal ≡ None → new.reported ≡ total (ms ++ ns) → Represents new (t ++ bs) (ms ++ ns)
+  agrees-on bounded limited live next = meant new (t ++ bs) (ms ++ ns) (bytes_join t bs h.are_bytes b) on sound bounded all-taken limited next live
 
   all-reported : IsSettled new.inner.frames new.inner.position → total (ms ++ ns) ≡ length (t ++ bs)
   all-reported settled =
@@ -115,20 +115,20 @@ module _ (old new : MachineView) (t bs : List ℕ) (ms ns : List Mark) (h : Stan
       let nothing : pending start ≡ 0 = refl in
       omega (arith, tiled, clear, nothing)
 
-silent : (old new : MachineView) (t bs : List ℕ) (ms : List Mark) → StandsFor old t ms → AreBytes bs → new.depth ≡ old.depth → IsSound new → new.open_count ≤ new.depth → new.taken ≤ new.bytes
-    → IsStep outs.More old new bs → StandsFor new (t ++ bs) ms
+silent : (old new : MachineView) (t bs : List ℕ) (ms : List Mark) → Represents old t ms → AreBytes bs → new.depth ≡ old.depth → IsSound new → new.open_count ≤ new.depth → new.taken ≤ new.bytes
+    → IsStep outs.More old new bs → Represents new (t ++ bs) ms
 silent old new t bs ms h b depth sound bounded limited s =
-    subst (λ (ns : List Mark). StandsFor new (t ++ bs) ns) (append-nil ms)
-    (stands-on old new t bs ms [] h b depth sound s.0 bounded limited s.1 (s.2 ∙ h.next ∙ sym (ap total (append-nil ms))))
+    subst (λ (ns : List Mark). Represents new (t ++ bs) ns) (append-nil ms)
+    (agrees-on old new t bs ms [] h b depth sound s.0 bounded limited s.1 (s.2 ∙ h.next ∙ sym (ap total (append-nil ms))))
 
-given : (old new : MachineView) (e : Event) (t bs : List ℕ) (ms : List Mark) → StandsFor old t ms → AreBytes bs → new.depth ≡ old.depth → IsSound new → new.open_count ≤ new.depth → new.taken ≤ new.bytes
+given : (old new : MachineView) (e : Event) (t bs : List ℕ) (ms : List Mark) → Represents old t ms → AreBytes bs → new.depth ≡ old.depth → IsSound new → new.open_count ≤ new.depth → new.taken ≤ new.bytes
     → IsStep (outs.Event e) old new bs → IsGiven e new t bs ms
 given old new e t bs ms h b depth sound bounded limited s =
     let ns = marks_of e.width e.kind in
     let all = all-reported old new t bs ms ns h b depth sound s.0 s.4 in
     let len = all-taken old new t bs ms ns h b depth sound s.0 in
     record {
-      stands = stands-on old new t bs ms ns h b depth sound s.0 bounded limited s.1 (s.3 ∙ len ∙ sym all);
+      agrees = agrees-on old new t bs ms ns h b depth sound s.0 bounded limited s.1 (s.3 ∙ len ∙ sym all);
       place = s.2 ∙ h.next;
       ends = all;
       bytes =
@@ -139,7 +139,7 @@ given old new e t bs ms h b depth sound bounded limited s =
     }
 
 -- a byte is refused
-byte-refused : (old new : MachineView) (r : Refusal) (t bs : List ℕ) (ms : List Mark) → StandsFor old t ms → AreBytes bs → ¬ (old.inner.position ≡ Done) → new.depth ≡ old.depth → IsSound new → new.open_count ≤ new.depth
+byte-refused : (old new : MachineView) (r : Refusal) (t bs : List ℕ) (ms : List Mark) → Represents old t ms → AreBytes bs → ¬ (old.inner.position ≡ Done) → new.depth ≡ old.depth → IsSound new → new.open_count ≤ new.depth
     → new.taken ≡ old.taken + length bs → new.taken ≤ new.bytes → new.reported ≡ old.reported → Stopped old new bs r → IsRefused r new t bs ms
 byte-refused old new r t bs ms h b going depth sound bounded taken limit reported s =
     let prefix = s.prefix in
@@ -158,26 +158,26 @@ byte-refused old new r t bs ms h b going depth sound bounded taken limit reporte
     let size : length (p ++ c ∷ []) ≡ new.taken = sym (ap length all) ∙ length-append t bs ∙ ap (λ n. n + length bs) (sym h.taken) ∙ sym taken in
     let limited : length p ≤ new.bytes = omega (arith, length-append p (c ∷ []), size, limit) in
     let place : old.taken + length prefix ≡ length p = ap (λ n. n + length prefix) h.taken ∙ sym (length-append t prefix) in
-    let answer : r ≡ refusal r.reason (length p) (length p + 1) = s.is ∙ ap (λ n. refusal r.reason n (n + 1)) place in
+    let outcome : r ≡ refusal r.reason (length p) (length p + 1) = s.is ∙ ap (λ n. refusal r.reason n (n + 1)) place in
     record {
       prefix = prefix;
-      behind = c ∷ [];
+      following = c ∷ [];
       splits = s.splits;
-      stands = meant (before new (length p)) p ms bytes ran (sound-before new (length p) sound) bounded refl limited (reported ∙ h.next) refl;
+      agrees = meant (before new (length p)) p ms bytes ran (sound-before new (length p) sound) bounded refl limited (reported ∙ h.next) refl;
       unfinished = not-whole new.depth p q ms ran unfinished;
       error = λ more.
           let k = new.bytes in
           let rest = take (k - length (p ++ c ∷ [])) more in
-          let cut : take k ((t ++ bs) ++ more) ≡ p ++ c ∷ rest = ap (λ xs. take k (xs ++ more)) all ∙ take-behind k (p ++ c ∷ []) more (omega arith) ∙ append_assoc p (c ∷ []) rest in
+          let cut : take k ((t ++ bs) ++ more) ≡ p ++ c ∷ rest = ap (λ xs. take k (xs ++ more)) all ∙ take-following k (p ++ c ∷ []) more (omega arith) ∙ append_assoc p (c ∷ []) rest in
           let l = longest new.depth p q ms c rest r.reason bytes ((bytes_back prefix (c ∷ []) small).0) ran refuses in
           record {
             longest = record { beginning = l.beginning; rest = c ∷ rest; splits = cut; longest = λ x y s e. l.longest x y s (sym cut ∙ e) };
-            error = (r.reason, (refuses-rightly new.depth p q ms c r.reason bytes ((bytes_back prefix (c ∷ []) small).0) ran unfinished refuses).1, answer);
+            error = (r.reason, (refuses-rightly new.depth p q ms c r.reason bytes ((bytes_back prefix (c ∷ []) small).0) ran unfinished refuses).1, outcome);
           };
     }
 
 -- the limit is reached
-limit-refused : (old new : MachineView) (r : Refusal) (t bs : List ℕ) (ms : List Mark) → StandsFor old t ms → AreBytes bs → ¬ (old.inner.position ≡ Done) → new.depth ≡ old.depth → IsSound new → new.open_count ≤ new.depth
+limit-refused : (old new : MachineView) (r : Refusal) (t bs : List ℕ) (ms : List Mark) → Represents old t ms → AreBytes bs → ¬ (old.inner.position ≡ Done) → new.depth ≡ old.depth → IsSound new → new.open_count ≤ new.depth
     → new.reported ≡ old.reported → Ran old new bs [] → new.taken ≡ new.bytes → r ≡ refusal TooLong new.bytes new.bytes → IsRefused r new t bs ms
 limit-refused old new r t bs ms h b going depth sound bounded reported s limit is =
     let p = t ++ bs in
@@ -189,9 +189,9 @@ limit-refused old new r t bs ms h b going depth sound bounded reported s limit i
     let size : length p ≡ new.bytes = sym (all-taken old new t bs ms [] h b depth sound s) ∙ limit in
     record {
       prefix = bs;
-      behind = [];
+      following = [];
       splits = sym (append-nil bs);
-      stands = meant (before new (length p)) p ms bytes ran (sound-before new (length p) sound) bounded refl (omega (arith, size)) (reported ∙ h.next) refl;
+      agrees = meant (before new (length p)) p ms bytes ran (sound-before new (length p) sound) bounded refl (omega (arith, size)) (reported ∙ h.next) refl;
       unfinished = not-whole new.depth p q ms ran unfinished;
       error = λ more.
           let cut : take new.bytes (p ++ more) ≡ p = ap (λ n. take n (p ++ more)) (sym size) ∙ take-append_seam p more in
@@ -210,13 +210,13 @@ limit-refused old new r t bs ms h b going depth sound bounded reported s limit i
     }
 
 -- a step of a machine that represented t and ms
-pub answered : (out : Out) (old new : MachineView) (t bs : List ℕ) (ms : List Mark) → StandsFor old t ms → AreBytes bs → ¬ (old.inner.position ≡ Done) → new.depth ≡ old.depth → IsSound new → new.open_count ≤ new.depth
-    → new.taken ≡ old.taken + length bs → new.taken ≤ new.bytes → IsStep out old new bs → IsAnswer out new t bs ms
-answered outs.More old new t bs ms h b going depth sound bounded taken limit s = silent old new t bs ms h b depth sound bounded limit s
-answered (outs.Event e) old new t bs ms h b going depth sound bounded taken limit s = given old new e t bs ms h b depth sound bounded limit s
-answered outs.Done old new t bs ms h b going depth sound bounded taken limit s =
-    subst (λ (m : MachineView). StandsFor m (t ++ bs) ms) (sym s.1) (subst (λ (u : List ℕ). StandsFor old u ms) (sym (append-nil t) ∙ ap (λ xs. t ++ xs) (sym s.0)) h)
-answered (outs.Refused r) old new t bs ms h b going depth sound bounded taken limit s = go s.1
+pub is_returned : (out : Out) (old new : MachineView) (t bs : List ℕ) (ms : List Mark) → Represents old t ms → AreBytes bs → ¬ (old.inner.position ≡ Done) → new.depth ≡ old.depth → IsSound new → new.open_count ≤ new.depth
+    → new.taken ≡ old.taken + length bs → new.taken ≤ new.bytes → IsStep out old new bs → IsResult out new t bs ms
+is_returned outs.More old new t bs ms h b going depth sound bounded taken limit s = silent old new t bs ms h b depth sound bounded limit s
+is_returned (outs.Event e) old new t bs ms h b going depth sound bounded taken limit s = given old new e t bs ms h b depth sound bounded limit s
+is_returned outs.Done old new t bs ms h b going depth sound bounded taken limit s =
+    subst (λ (m : MachineView). Represents m (t ++ bs) ms) (sym s.1) (subst (λ (u : List ℕ). Represents old u ms) (sym (append-nil t) ∙ ap (λ xs. t ++ xs) (sym s.0)) h)
+is_returned (outs.Refused r) old new t bs ms h b going depth sound bounded taken limit s = go s.1
   where
     go : (Ran old new bs [] × (new.taken ≡ new.bytes) × (r ≡ refusal TooLong new.bytes new.bytes)) ⊎ Stopped old new bs r → IsRefused r new t bs ms
     go (inl x) = limit-refused old new r t bs ms h b going depth sound bounded s.0 x.0 x.1 x.2

@@ -15,8 +15,8 @@ use Rattle.theory_automaton.proofs.{Forward.reporting_all, Beginnings.onwards, B
 use Rattle.cbor_machine.specs.State.{wanted_at, state_of, is_in_payload, is_done}
 use Rattle.cbor_machine.specs.declared.frame.Frame as frames
 use Rattle.cbor_machine.specs.declared.position.Position.TheVariants as positions
-use Rattle.cbor_machine.specs.Machine.{StandsFor, IsComplete, IsWhole, IsGiven, wanted, wanted_within}
-use Rattle.cbor_machine.specs.NextEvent.{machine_call, IsExpected, IsKept, StandsBetween, IsNextEvent, IsEnd}
+use Rattle.cbor_machine.specs.Machine.{Represents, IsComplete, IsWhole, IsGiven, wanted, wanted_within}
+use Rattle.cbor_machine.specs.NextEvent.{machine_call, IsExpected, IsKept, AgreesBetween, IsNextEvent, IsEnd}
 use Rattle.cbor_machine.specs.{declared.position.Position.Position, inner.Machine.IsShown, MachineView.MachineView, Calls.HasRead}
 use Rattle.cbor_machine.proofs.Positions.{position-done}
 
@@ -131,7 +131,7 @@ module _ (d : ℕ) (position : Position) (fs : List frames.Frame) (r u : State) 
 -- ---- the results
 
 -- an event is complete
-pub event-here : (e : Event) (from mid_from to : Option (List ℕ)) (old mid new : MachineView) (kept buffer t last : List ℕ) (ms : List Mark) → StandsBetween old t ms → (r : HasRead from mid_from mid t ms)
+pub event-here : (e : Event) (from mid_from to : Option (List ℕ)) (old mid new : MachineView) (kept buffer t last : List ℕ) (ms : List Mark) → AgreesBetween old t ms → (r : HasRead from mid_from mid t ms)
     → mid.depth ≡ old.depth → new.depth ≡ old.depth → Consumes mid_from to last → AreBytes last → 0 < length last → last ≡ take (length last) buffer → IsGiven e new (t ++ r.bytes) last ms
     → IsNextEvent e (machine_call old new from to kept (piece_by e.kind kept buffer) t ms)
 event-here e from mid_from to old mid new kept buffer t last ms h r mid_depth depth c b some here g =
@@ -141,16 +141,16 @@ event-here e from mid_from to old mid new kept buffer t last ms h r mid_depth de
     let m = state_of mid.inner.position mid.inner.frames in
     let u = state_of new.inner.position new.inner.frames in
     let marks = marks_of e.width e.kind in
-    let silent : run d start (t ++ pre) ≡ reached m ms = subst (λ (x : ℕ). run x start (t ++ pre) ≡ reached m ms) mid_depth r.stands.inner.ran in
-    let whole : run d start ((t ++ pre) ++ last) ≡ reached u (ms ++ marks) = subst (λ (x : ℕ). run x start ((t ++ pre) ++ last) ≡ reached u (ms ++ marks)) depth g.stands.inner.ran in
-    let first = run-rest d t pre q m ms [] h.stands.inner.ran (silent ∙ ap (reached m) (sym (append-nil ms))) in
+    let silent : run d start (t ++ pre) ≡ reached m ms = subst (λ (x : ℕ). run x start (t ++ pre) ≡ reached m ms) mid_depth r.agrees.inner.ran in
+    let whole : run d start ((t ++ pre) ++ last) ≡ reached u (ms ++ marks) = subst (λ (x : ℕ). run x start ((t ++ pre) ++ last) ≡ reached u (ms ++ marks)) depth g.agrees.inner.ran in
+    let first = run-rest d t pre q m ms [] h.agrees.inner.ran (silent ∙ ap (reached m) (sym (append-nil ms))) in
     let then_reported = run-rest d (t ++ pre) last m u ms marks silent whole in
-    let bytes = bytes_back t pre r.stands.are_bytes in
-    let known = event-known d old.inner.position old.inner.frames m u pre last buffer kept (whole-clear d t q ms h.stands.inner.ran h.whole) (whole-clear d ((t ++ pre) ++ last) u (ms ++ marks) whole g.ends)
+    let bytes = bytes_back t pre r.agrees.are_bytes in
+    let known = event-known d old.inner.position old.inner.frames m u pre last buffer kept (whole-clear d t q ms h.agrees.inner.ran h.whole) (whole-clear d ((t ++ pre) ++ last) u (ms ++ marks) whole g.ends)
     bytes b (bytes_join pre last bytes b) first some here e.width e.kind then_reported in
     let mine : drop e.place ((t ++ pre) ++ last) ≡ pre ++ last =
     ap (λ n. drop n ((t ++ pre) ++ last)) (g.place ∙ h.whole) ∙ ap (drop (length t)) (append_assoc t pre last) ∙ drop-append_seam t (pre ++ last) in
-    let shown = h.stands.inner.shown in
+    let shown = h.agrees.inner.shown in
     record {
       unfinished = λ k. true≢false (sym k.0 ∙ shown.complete ∙ known.0.0);
       expected = subst (λ (b : Bool). IsExpected b e.kind) (sym shown.in_payload) known.0.1;
@@ -159,34 +159,34 @@ event-here e from mid_from to old mid new kept buffer t last ms h r mid_depth de
       are = subst (IsEventBytes ms e.width e.kind) mine g.bytes;
       piece_is = known.1;
       place = g.place ∙ h.whole;
-      stands = subst (λ xs. StandsBetween new xs (ms ++ marks)) (append_assoc t pre last) (record { stands = g.stands; whole = g.ends });
+      agrees = subst (λ xs. AgreesBetween new xs (ms ++ marks)) (append_assoc t pre last) (record { agrees = g.agrees; whole = g.ends });
     }
 
 -- the item is complete: nothing was read
-pub end-here : (from mid_from to : Option (List ℕ)) (old mid new : MachineView) (kept t last : List ℕ) (ms : List Mark) → StandsBetween old t ms → HasRead from mid_from mid t ms → mid.depth ≡ old.depth
+pub end-here : (from mid_from to : Option (List ℕ)) (old mid new : MachineView) (kept t last : List ℕ) (ms : List Mark) → AgreesBetween old t ms → HasRead from mid_from mid t ms → mid.depth ≡ old.depth
     → IsComplete mid → new ≡ mid → Consumes mid_from to last → last ≡ [] → IsEnd (machine_call old new from to kept kept t ms)
 end-here from mid_from to old mid new kept t last ms h r depth complete same c nothing =
     let d = old.depth in
     let q = state_of old.inner.position old.inner.frames in
     let silent : run d start (t ++ r.bytes) ≡ reached (state_of mid.inner.position mid.inner.frames) ms =
-    subst (λ (x : ℕ). run x start (t ++ r.bytes) ≡ reached (state_of mid.inner.position mid.inner.frames) ms) depth r.stands.inner.ran in
-    let at_end : mid.inner.position ≡ positions.Done = position-done mid.inner.position (sym r.stands.inner.shown.complete ∙ complete.0) in
+    subst (λ (x : ℕ). run x start (t ++ r.bytes) ≡ reached (state_of mid.inner.position mid.inner.frames) ms) depth r.agrees.inner.ran in
+    let at_end : mid.inner.position ≡ positions.Done = position-done mid.inner.position (sym r.agrees.inner.shown.complete ∙ complete.0) in
     let over : run d start (t ++ r.bytes) ≡ reached done (ms ++ []) = silent ∙ ap (λ p. reached (state_of p mid.inner.frames) ms) at_end ∙ ap (reached done) (sym (append-nil ms)) in
-    let first = run-rest d t r.bytes q done ms [] h.stands.inner.ran over in
-    let none : r.bytes ≡ [] = (nothing-taken d q done r.bytes (whole-clear d t q ms h.stands.inner.ran h.whole) (bytes_back t r.bytes r.stands.are_bytes) first).1 in
+    let first = run-rest d t r.bytes q done ms [] h.agrees.inner.ran over in
+    let none : r.bytes ≡ [] = (nothing-taken d q done r.bytes (whole-clear d t q ms h.agrees.inner.ran h.whole) (bytes_back t r.bytes r.agrees.are_bytes) first).1 in
     let here : t ++ r.bytes ≡ t = ap (λ xs. t ++ xs) none ∙ append-nil t in
     record {
-      complete = h.stands.complete.1 (subst (λ d. IsWhole d t) depth (subst (IsWhole mid.depth) here (r.stands.complete.0 complete)));
+      complete = h.agrees.complete.1 (subst (λ d. IsWhole d t) depth (subst (IsWhole mid.depth) here (r.agrees.complete.0 complete)));
       consumed = Consumes-trans _ _ _ _ _ (subst (Consumes from mid_from) none r.consumed) (subst (Consumes mid_from to) nothing c);
       same = refl;
-      stands = record { stands = subst (λ m. StandsFor m t ms) (sym same) (subst (λ xs. StandsFor mid xs ms) here r.stands); whole = h.whole };
+      agrees = record { agrees = subst (λ m. Represents m t ms) (sym same) (subst (λ xs. Represents mid xs ms) here r.agrees); whole = h.whole };
     }
 
 -- one read after another, without a complete event
-pub read-on : (from mid_from to : Option (List ℕ)) (mid new : MachineView) (t last : List ℕ) (ms : List Mark) → (r : HasRead from mid_from mid t ms) → Consumes mid_from to last → StandsFor new ((t ++ r.bytes) ++ last) ms
+pub read-on : (from mid_from to : Option (List ℕ)) (mid new : MachineView) (t last : List ℕ) (ms : List Mark) → (r : HasRead from mid_from mid t ms) → Consumes mid_from to last → Represents new ((t ++ r.bytes) ++ last) ms
     → HasRead from to new t ms
 read-on from mid_from to mid new t last ms r c h =
-    record { bytes = r.bytes ++ last; consumed = Consumes-trans _ _ _ _ _ r.consumed c; stands = subst (λ xs. StandsFor new xs ms) (append_assoc t r.bytes last) h }
+    record { bytes = r.bytes ++ last; consumed = Consumes-trans _ _ _ _ _ r.consumed c; agrees = subst (λ xs. Represents new xs ms) (append_assoc t r.bytes last) h }
 
 -- ---- the bytes that the machine expects
 

@@ -9,7 +9,7 @@ use Rattle.theory_values.proofs.Verdicts.{item_one}
 use Rattle.theory_automaton.specs.Automaton.{State, start, take_byte, run, reached}
 use Rattle.theory_automaton.proofs.Runs.{run-on, silent-unfinished, sane-run}
 use Rattle.theory_automaton.{specs.Trace.Mark, proofs.Refusals.IsUnfinished, proofs.Refusals.refuses-rightly}
-use Rattle.cbor_machine.specs.Machine.{StandsFor, IsComplete, IsWhole, before, IsRefused}
+use Rattle.cbor_machine.specs.Machine.{Represents, IsComplete, IsWhole, before, IsRefused}
 use Rattle.cbor_machine.specs.Steps.{Ran, Stopped, IsStep}
 use Rattle.cbor_machine.specs.NextEvent.{Call, IsCut, IsTooLong, HasFormError}
 use Rattle.cbor_machine.specs.declared.step.Out.TheVariants as outs
@@ -35,13 +35,13 @@ cut-verdict limits p b unfinished short =
     }
 
 -- if the item is not complete now, it was not complete before the read
-pub still-expected : (from to : Option (List ℕ)) (old mid : MachineView) (t : List ℕ) (ms : List Mark) → StandsFor old t ms → HasRead from to mid t ms → mid.depth ≡ old.depth → ¬ IsComplete mid → ¬ IsComplete old
+pub still-expected : (from to : Option (List ℕ)) (old mid : MachineView) (t : List ℕ) (ms : List Mark) → Represents old t ms → HasRead from to mid t ms → mid.depth ≡ old.depth → ¬ IsComplete mid → ¬ IsComplete old
 still-expected from to old mid t ms h r depth going = λ c.
     let w = h.complete.0 c in
-    let b = r.stands.beginning in
+    let b = r.agrees.beginning in
     let first : IsItem mid.depth w.0 t = subst (λ d. IsItem d w.0 t) (sym depth) w.1 in
     let none = item_one mid.depth w.0 b.0 t (r.bytes ++ b.1) first (subst (IsItem mid.depth b.0) (append_assoc t r.bytes b.1) b.2) in
-    going (r.stands.complete.1 (w.0, subst (IsItem mid.depth w.0) (sym (ap (λ xs. t ++ xs) (empty r.bytes b.1 none.1) ∙ append-nil t)) first))
+    going (r.agrees.complete.1 (w.0, subst (IsItem mid.depth w.0) (sym (ap (λ xs. t ++ xs) (empty r.bytes b.1 none.1) ∙ append-nil t)) first))
   where
     empty : (xs ys : List ℕ) → xs ++ ys ≡ [] → xs ≡ []
     empty [] ys e = refl
@@ -55,16 +55,16 @@ pub cut-here : (f : Refusal) (c : Call) (mid_from : Option (List ℕ)) → HasRe
     → (f.reason ≡ Read) ⊎ ((f.reason ≡ Truncated) × IsAtEnd c.left) → f ≡ refusal f.reason c.new.taken c.new.taken → c.new.taken < c.new.bytes → ¬ IsComplete c.new → IsCut f c
 cut-here f c mid_from r lost reason is short going =
     let t = c.taken in
-    let taken = r.stands.taken in
-    let unfinished : ¬ IsWhole c.new.depth (t ++ r.bytes) = λ w. going (r.stands.complete.1 w) in
+    let taken = r.agrees.taken in
+    let unfinished : ¬ IsWhole c.new.depth (t ++ r.bytes) = λ w. going (r.agrees.complete.1 w) in
     record {
       bytes = r.bytes;
       consumed = subst (Consumes c.held c.left) (append-nil r.bytes) (Consumes-trans _ _ _ _ _ r.consumed lost);
       reason = reason;
       is = is ∙ ap (λ n. refusal f.reason n n) taken;
-      verdict = cut-verdict (bounds c.new.depth c.new.bytes) (t ++ r.bytes) r.stands.beginning unfinished (omega (arith, taken));
+      verdict = cut-verdict (bounds c.new.depth c.new.bytes) (t ++ r.bytes) r.agrees.beginning unfinished (omega (arith, taken));
       short = omega (arith, taken);
-      stands = r.stands;
+      agrees = r.agrees;
       unfinished = unfinished;
     }
 
@@ -87,30 +87,30 @@ module _ (f : Refusal) (c : Call) (mid_from : Option (List ℕ)) (mid : MachineV
   p = state_of mid.inner.position mid.inner.frames
 
   shown : IsShown new
-  shown = shown-after new _ ref.stands.inner.shown
+  shown = shown-after new _ ref.agrees.inner.shown
 
   within_item : IsUnfinished p
-  within_item = unfinished-position mid.inner.position mid.inner.frames (λ e. going (r.stands.inner.shown.complete ∙ ap is_done e, r.stands.live))
+  within_item = unfinished-position mid.inner.position mid.inner.frames (λ e. going (r.agrees.inner.shown.complete ∙ ap is_done e, r.agrees.live))
 
   beyond : (xs : List ℕ) → AreBytes xs → run mid.depth p xs ≡ reached q []
       → (run new.depth start (t ++ (r.bytes ++ xs)) ≡ reached q ms) × IsUnfinished q × AreBytes (t ++ (r.bytes ++ xs))
   beyond xs b e =
-      let whole : run mid.depth start ((t ++ r.bytes) ++ xs) ≡ reached q (ms ++ []) = run-on mid.depth (t ++ r.bytes) xs p q ms [] r.stands.inner.ran e in
+      let whole : run mid.depth start ((t ++ r.bytes) ++ xs) ≡ reached q (ms ++ []) = run-on mid.depth (t ++ r.bytes) xs p q ms [] r.agrees.inner.ran e in
       let here : (t ++ r.bytes) ++ xs ≡ t ++ (r.bytes ++ xs) = append_assoc t r.bytes xs in (
         ap (λ d. run d start (t ++ (r.bytes ++ xs))) depth ∙ sym (ap (run mid.depth start) here) ∙ whole ∙ ap (reached q) (append-nil ms),
-        silent-unfinished mid.depth xs p q (sane-run mid.depth (t ++ r.bytes) start p ms tt r.stands.inner.ran) within_item e,
-        subst AreBytes here (bytes_join (t ++ r.bytes) xs r.stands.are_bytes b),
+        silent-unfinished mid.depth xs p q (sane-run mid.depth (t ++ r.bytes) start p ms tt r.agrees.inner.ran) within_item e,
+        subst AreBytes here (bytes_join (t ++ r.bytes) xs r.agrees.are_bytes b),
       )
 
   taken-there : (xs : List ℕ) → mid.taken + length xs ≡ length (t ++ (r.bytes ++ xs))
-  taken-there xs = ap (λ n. n + length xs) r.stands.taken ∙ sym (length-append (t ++ r.bytes) xs) ∙ ap length (append_assoc t r.bytes xs)
+  taken-there xs = ap (λ n. n + length xs) r.agrees.taken ∙ sym (length-append (t ++ r.bytes) xs) ∙ ap length (append_assoc t r.bytes xs)
 
   stood : (xs : List ℕ) → length xs ≤ length last → run new.depth start (t ++ (r.bytes ++ xs)) ≡ reached q ms → IsUnfinished q → AreBytes (t ++ (r.bytes ++ xs))
-      → StandsFor (before new (length (t ++ (r.bytes ++ xs)))) (t ++ (r.bytes ++ xs)) ms
+      → Represents (before new (length (t ++ (r.bytes ++ xs)))) (t ++ (r.bytes ++ xs)) ms
   stood xs within e u b =
       meant (before new (length (t ++ (r.bytes ++ xs)))) (t ++ (r.bytes ++ xs)) ms b e
       (record { shown = shown-before new _ shown; empty = λ p. absurd (subst (λ p. IsUnfinished (state_of p new.inner.frames)) p u) })
-      ref.stands.bounded refl (omega (arith, taken-there xs)) ref.stands.next refl
+      ref.agrees.bounded refl (omega (arith, taken-there xs)) ref.agrees.next refl
 
   judged : (xs more : List ℕ) → xs ≡ (t ++ r.bytes) ++ last → IsVerdict (bounds new.depth new.bytes) form (xs ++ more) (refused f)
   judged xs more e = subst (λ (ys : List ℕ). IsVerdict (bounds new.depth new.bytes) form (ys ++ more) (refused f)) (sym e) (refusal-verdict f new (t ++ r.bytes) last ms ref more)
@@ -127,7 +127,7 @@ module _ (f : Refusal) (c : Call) (mid_from : Option (List ℕ)) (mid : MachineV
         is = is;
         full = sym (taken-there last) ∙ sym ran.taken ∙ limit;
         verdict = λ more. judged (t ++ (r.bytes ++ last)) more (sym (append_assoc t r.bytes last));
-        stands = stood last (omega arith) b.0 b.1 b.2;
+        agrees = stood last (omega arith) b.0 b.1 b.2;
         unfinished = not-whole new.depth (t ++ (r.bytes ++ last)) q ms b.0 b.1;
       }
 
@@ -146,7 +146,7 @@ module _ (f : Refusal) (c : Call) (mid_from : Option (List ℕ)) (mid : MachineV
         is = s.is ∙ ap (λ n. refusal f.reason n (n + 1)) (taken-there s.prefix);
         cannot_follow = (refuses-rightly new.depth (t ++ (r.bytes ++ s.prefix)) q ms s.byte f.reason b.2 ((bytes_back s.prefix (s.byte ∷ []) small).0) b.0 b.1 (ap (λ d. take_byte d q s.byte) depth ∙ s.refuses)).0;
         verdict = λ more. judged ((t ++ (r.bytes ++ s.prefix)) ++ s.byte ∷ []) more here;
-        stands = stood s.prefix within b.0 b.1 b.2;
+        agrees = stood s.prefix within b.0 b.1 b.2;
         unfinished = not-whole new.depth (t ++ (r.bytes ++ s.prefix)) q ms b.0 b.1;
       }
 

@@ -27,7 +27,7 @@ pub read-on : (ls ks : List ℕ) (i : ℕ) (container_stack to : List Frame) (f 
     → to ≡ frames_by (take (i + 1) ls) (take (i + 1) ks)
 read-on ls ks i container_stack to f l m e pushed is = pushed ∙ ap (λ fs. fs ++ f ∷ []) e ∙ ap (λ g. frames_by (take i ls) (take i ks) ++ g ∷ []) is ∙ sym (next-read ls ks i l m)
 
-pub zeros-behind : (n most : ℕ) (xs : List ℕ) → xs ≡ drop n (replicate most 0) → AreZeros xs
-zeros-behind n most xs e =
+pub zeros-following : (n most : ℕ) (xs : List ℕ) → xs ≡ drop n (replicate most 0) → AreZeros xs
+zeros-following n most xs e =
     let is : xs ≡ replicate (most - n) 0 = e ∙ drop-replicate n most 0 in
     is ∙ ap (λ k. replicate k 0) (sym (ap length is ∙ length-replicate (most - n) 0))

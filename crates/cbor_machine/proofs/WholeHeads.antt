@@ -26,23 +26,23 @@ prefix-of xs hs rest e =
     ap (λ k. take k xs) n ∙ ap (take (length hs)) e ∙ take-append_seam hs rest
 
 -- the bytes of a head, by its first byte
-spelled-head : (c : ℕ) (behind : List ℕ) (w : Width) (n : ℕ) (rest : List ℕ) (m : Major) → IsArgument (c % 32) behind w n rest → major_number m ≡ c / 32 → c ∷ behind ≡ head m w n ++ rest
-spelled-head c behind w n rest m a e =
+spelled-head : (c : ℕ) (following : List ℕ) (w : Width) (n : ℕ) (rest : List ℕ) (m : Major) → IsArgument (c % 32) following w n rest → major_number m ≡ c / 32 → c ∷ following ≡ head m w n ++ rest
+spelled-head c following w n rest m a e =
     let first : c ≡ 32 * major_number m + c % 32 = omega (arith, e) in
-    ap (λ x. x ∷ behind) first ∙ a.spelled (32 * major_number m)
+    ap (λ x. x ∷ following) first ∙ a.spelled (32 * major_number m)
 
 one-mark : (d : ℕ) (q u : State) (m : Mark) (hs : List ℕ) → ((rest : List ℕ) → run d q (hs ++ rest) ≡ reporting m (run d u rest)) → run d q hs ≡ reached u (m ∷ [])
 one-mark d q u m hs h = ap (run d q) (sym (append-nil hs)) ∙ h []
 
 -- a definite head of any type but 7
-pub numbered-run : (d : ℕ) (fs : List Frame) (xs : List ℕ) (c : ℕ) (behind : List ℕ) (w : Width) (n : ℕ) (rest : List ℕ) (kind : ArgumentType) (kind' : EventKind) (to : State)
-    → xs ≡ c ∷ behind → IsArgument (c % 32) behind w n rest → c < 256 → major_of kind ≡ major_at (c / 32) → has_space d fs (major_of kind) ≡ true
+pub numbered-run : (d : ℕ) (fs : List Frame) (xs : List ℕ) (c : ℕ) (following : List ℕ) (w : Width) (n : ℕ) (rest : List ℕ) (kind : ArgumentType) (kind' : EventKind) (to : State)
+    → xs ≡ c ∷ following → IsArgument (c % 32) following w n rest → c < 256 → major_of kind ≡ major_at (c / 32) → has_space d fs (major_of kind) ≡ true
     → to ≡ after false (major_of kind) n fs → marks_of w kind' ≡ a_head (major_of kind) w n ∷ [] → (IsDefinite w → IsProper w kind')
     → IsEventRun d (at_item fs) to (take (length xs - length rest) xs) w kind'
-numbered-run d fs xs c behind w n rest kind kind' to xs-is a small major space to-is marks proper =
+numbered-run d fs xs c following w n rest kind kind' to xs-is a small major space to-is marks proper =
     let m = major_of kind in
     let number : major_number m ≡ c / 32 = ap major_number major ∙ number-major_at (c / 32) (omega arith) in
-    let prefix = prefix-of xs (head m w n) rest (xs-is ∙ spelled-head c behind w n rest m a number) in
+    let prefix = prefix-of xs (head m w n) rest (xs-is ∙ spelled-head c following w n rest m a number) in
     record {
       ran = ap (run d (at_item fs)) prefix ∙ one-mark d (at_item fs) (after false m n fs) (a_head m w n) (head m w n) (λ more. head-taken d (at_item fs) false m fs (item_starts d m fs (plain kind) space) w n more a.holds)
           ∙ ap (λ q. reached q (a_head m w n ∷ [])) (sym to-is) ∙ ap (reached to) (sym marks);
@@ -50,12 +50,12 @@ numbered-run d fs xs c behind w n rest kind kind' to xs-is a small major space t
     }
 
 -- a simple value
-pub simple-run : (d : ℕ) (fs : List Frame) (xs : List ℕ) (c : ℕ) (behind : List ℕ) (w : Width) (n : ℕ) (rest : List ℕ) (to : State)
-    → xs ≡ c ∷ behind → IsArgument (c % 32) behind w n rest → c < 256 → 224 ≤ c → c % 32 ≤ 24 → (c % 32 ≡ 24 → 32 ≤ n) → to ≡ close fs
+pub simple-run : (d : ℕ) (fs : List Frame) (xs : List ℕ) (c : ℕ) (following : List ℕ) (w : Width) (n : ℕ) (rest : List ℕ) (to : State)
+    → xs ≡ c ∷ following → IsArgument (c % 32) following w n rest → c < 256 → 224 ≤ c → c % 32 ≤ 24 → (c % 32 ≡ 24 → 32 ≤ n) → to ≡ close fs
     → IsEventRun d (at_item fs) to (take (length xs - length rest) xs) w (kinds.Simple n)
-simple-run d fs xs c behind w n rest to xs-is a small high low enough to-is =
+simple-run d fs xs c following w n rest to xs-is a small high low enough to-is =
     let number : major_number Simple ≡ c / 32 = omega arith in
-    let prefix = prefix-of xs (head Simple w n) rest (xs-is ∙ spelled-head c behind w n rest Simple a number) in
+    let prefix = prefix-of xs (head Simple w n) rest (xs-is ∙ spelled-head c following w n rest Simple a number) in
     record {
       ran = ap (run d (at_item fs)) prefix ∙ by-width w n a enough ∙ ap (λ q. reached q (a_head Simple w n ∷ [])) (sym to-is);
       proper = definite w n a.holds;
@@ -64,7 +64,7 @@ simple-run d fs xs c behind w n rest to xs-is a small high low enough to-is =
     head-cons : {x y : ℕ} {xs ys : List ℕ} → x ∷ xs ≡ y ∷ ys → x ≡ y
     head-cons e = cc
 
-    by-width : (w : Width) (n : ℕ) → IsArgument (c % 32) behind w n rest → (c % 32 ≡ 24 → 32 ≤ n) → run d (at_item fs) (head Simple w n) ≡ reached (close fs) (a_head Simple w n ∷ [])
+    by-width : (w : Width) (n : ℕ) → IsArgument (c % 32) following w n rest → (c % 32 ≡ 24 → 32 ≤ n) → run d (at_item fs) (head Simple w n) ≡ reached (close fs) (a_head Simple w n ∷ [])
     by-width Direct n a more = one-mark d (at_item fs) (close fs) (a_head Simple Direct n) (head Simple Direct n) (λ zs. simple-direct d n fs zs a.holds)
     by-width One n a more =
         let e = a.spelled 0 in
@@ -108,22 +108,22 @@ fed left low n xs rest w at high a = by-width w a
     by-width Indefinite a = absurd a.holds
 
 -- an argument with no byte after the first is in the first byte
-pub direct_alone : (low : ℕ) (behind : List ℕ) (w : Width) (n : ℕ) (rest : List ℕ) → length behind ≡ 0 → IsArgument low behind w n rest → low < 24
-direct_alone low behind w n rest none a = by-width w a
+pub direct_alone : (low : ℕ) (following : List ℕ) (w : Width) (n : ℕ) (rest : List ℕ) → length following ≡ 0 → IsArgument low following w n rest → low < 24
+direct_alone low following w n rest none a = by-width w a
   where
     head-cons : {x y : ℕ} {xs ys : List ℕ} → x ∷ xs ≡ y ∷ ys → x ≡ y
     head-cons e = cc
 
     -- there are no `size` bytes of an argument
-    behind-it : (size : ℕ) (first : ℕ) → 0 < size → (0 + low) ∷ behind ≡ first ∷ (bytes_high_first size n ++ rest) → low < 24
-    behind-it size first some e = absurd (omega (arith, none, ap length e, length-append (bytes_high_first size n) rest, length-bytes_high_first size n))
+    following-it : (size : ℕ) (first : ℕ) → 0 < size → (0 + low) ∷ following ≡ first ∷ (bytes_high_first size n ++ rest) → low < 24
+    following-it size first some e = absurd (omega (arith, none, ap length e, length-append (bytes_high_first size n) rest, length-bytes_high_first size n))
 
-    by-width : (w : Width) → IsArgument low behind w n rest → low < 24
+    by-width : (w : Width) → IsArgument low following w n rest → low < 24
     by-width Direct a = let e = a.spelled 0 in let f : 0 + low ≡ 0 + n = head-cons e in let h = a.holds in omega arith
-    by-width One a = behind-it 1 24 (omega arith) (a.spelled 0)
-    by-width Two a = behind-it 2 25 (omega arith) (a.spelled 0)
-    by-width Four a = behind-it 4 26 (omega arith) (a.spelled 0)
-    by-width Eight a = behind-it 8 27 (omega arith) (a.spelled 0)
+    by-width One a = following-it 1 24 (omega arith) (a.spelled 0)
+    by-width Two a = following-it 2 25 (omega arith) (a.spelled 0)
+    by-width Four a = following-it 4 26 (omega arith) (a.spelled 0)
+    by-width Eight a = following-it 8 27 (omega arith) (a.spelled 0)
     by-width Indefinite a = absurd a.holds
 
 -- if there is space for a container, an item may begin with any byte below 224

@@ -8,7 +8,7 @@ use Rattle.theory_automaton.specs.{Trace.Mark, Trace.trace, Trace.total}
 use Rattle.theory_automaton.proofs.{Forward.forward, Beginnings.reporting_all-reached, Runs.run-on, Runs.tiles, Events.clear-pending, Events.pending}
 use Rattle.cbor_machine.specs.State.{state_of, frames_of, is_at_item, IsSettled}
 use Rattle.cbor_machine.proofs.MachineStates.{IsSound, meant, settled-clear}
-use Rattle.cbor_machine.specs.{Machine.StandsFor, NextEvent.StandsBetween, declared.position.Position.TheVariants.Item, MachineView.MachineView}
+use Rattle.cbor_machine.specs.{Machine.Represents, NextEvent.AgreesBetween, declared.position.Position.TheVariants.Item, MachineView.MachineView}
 use Rattle.cbor_machine.{specs.declared.frame.Frame.Frame, specs.declared.position.Position.Position, proofs.Frames.length_frames}
 
 -- the bytes of an item lead to the state after it
@@ -22,10 +22,10 @@ item-state Item fs e = refl
 item-state _ fs e = absurd (cc e)
 
 -- what a machine represents after an item
-pub item-stands : (old new : MachineView) (t bs : List ℕ) (ms : List Mark) (s : Spelling) → StandsFor old t ms → IsItem (old.depth - old.open_count) s bs → AreBytes bs → old.item_expected ≡ true
+pub item-agrees : (old new : MachineView) (t bs : List ℕ) (ms : List Mark) (s : Spelling) → Represents old t ms → IsItem (old.depth - old.open_count) s bs → AreBytes bs → old.item_expected ≡ true
     → new.depth ≡ old.depth → state_of new.inner.position new.inner.frames ≡ close (frames_of old.inner.frames) → IsSettled new.inner.frames new.inner.position → IsSound new → new.open_count ≤ new.depth
-    → new.taken ≡ old.taken + length bs → new.taken ≤ new.bytes → new.reported ≡ new.taken → new.refusal ≡ old.refusal → StandsBetween new (t ++ bs) (ms ++ trace s)
-item-stands old new t bs ms s h i are expected deep state settled sound bounded taken limited reported refusal =
+    → new.taken ≡ old.taken + length bs → new.taken ≤ new.bytes → new.reported ≡ new.taken → new.refusal ≡ old.refusal → AgreesBetween new (t ++ bs) (ms ++ trace s)
+item-agrees old new t bs ms s h i are expected deep state settled sound bounded taken limited reported refusal =
     let q = state_of old.inner.position old.inner.frames in
     let u = state_of new.inner.position new.inner.frames in
     let at : q ≡ automaton.at_item (frames_of old.inner.frames) = item-state old.inner.position old.inner.frames (sym h.inner.shown.item_expected ∙ expected) in
@@ -41,6 +41,6 @@ item-stands old new t bs ms s h i are expected deep state settled sound bounded 
     let nothing : pending start ≡ 0 = refl in
     omega (arith, tiled, clear, nothing)) in
     record {
-      stands = meant new (t ++ bs) (ms ++ trace s) (bytes_join t bs h.are_bytes are) ran sound bounded all limited (reported ∙ all ∙ sym whole) (refusal ∙ h.live);
+      agrees = meant new (t ++ bs) (ms ++ trace s) (bytes_join t bs h.are_bytes are) ran sound bounded all limited (reported ∙ all ∙ sym whole) (refusal ∙ h.live);
       whole = whole;
     }

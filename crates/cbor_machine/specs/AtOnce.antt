@@ -24,7 +24,7 @@ begins_long depth open_count c = is_long_head c && may_begin depth open_count c
 -- the bytes begin with a head of one byte
 abbrev pub begins_short : ℕ → ℕ → List ℕ → Bool
 begins_short depth open_count [] = false
-begins_short depth open_count (c ∷ behind) = is_short_head c && may_begin depth open_count c
+begins_short depth open_count (c ∷ following) = is_short_head c && may_begin depth open_count c
 
 -- one more than this number is 1, 2, 4 or 8, the number of bytes of an argument
 abbrev pub is_width : ℕ → Bool

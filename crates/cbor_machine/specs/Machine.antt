@@ -36,7 +36,7 @@ abbrev pub IsWhole : ℕ → List ℕ → Type 0
 IsWhole d t = (s : Spelling) × IsItem d s t
 
 -- The machine has consumed t, and reported ms. It stores neither.
-pub record StandsFor (m : MachineView) (t : List ℕ) (ms : List Mark) : Type 0 where
+pub record Represents (m : MachineView) (t : List ℕ) (ms : List Mark) : Type 0 where
   -- t is always a beginning
   pub beginning : IsBeginning m.depth t
   -- what was reported is what ends within t, of each item that starts with t
@@ -59,7 +59,7 @@ pub record StandsFor (m : MachineView) (t : List ℕ) (ms : List Mark) : Type 0 
 
 -- an event is complete, of a machine that represented t and ms and has now used bs
 pub record IsGiven (e : Event) (m : MachineView) (t bs : List ℕ) (ms : List Mark) : Type 0 where
-  pub stands : StandsFor m (t ++ bs) (ms ++ marks_of e.width e.kind)
+  pub agrees : Represents m (t ++ bs) (ms ++ marks_of e.width e.kind)
   -- it begins where what was reported before it ends
   pub place : e.place ≡ total ms
   -- and ends here
@@ -68,7 +68,7 @@ pub record IsGiven (e : Event) (m : MachineView) (t bs : List ℕ) (ms : List Ma
   pub bytes : IsEventBytes ms e.width e.kind (drop e.place (t ++ bs))
 
 -- the longest beginning of the input is p, and after it the form has this error
-pub record FormErrorBehind (limits : Bounds) (input p : List ℕ) (r : Refusal) : Type 0 where
+pub record FormErrorAfter (limits : Bounds) (input p : List ℕ) (r : Refusal) : Type 0 where
   pub longest : IsLongestBeginning limits.depth (take limits.bytes input) p
   pub error : IsFormError limits p longest.rest r
 
@@ -80,20 +80,20 @@ before m n = record m { taken = n; refusal = None }
 pub record IsRefused (r : Refusal) (m : MachineView) (t bs : List ℕ) (ms : List Mark) : Type 0 where
   -- what was consumed of bs before the byte that is refused, if there is one
   pub prefix : List ℕ
-  pub behind : List ℕ
-  pub splits : bs ≡ prefix ++ behind
-  pub stands : StandsFor (before m (length (t ++ prefix))) (t ++ prefix) ms
+  pub following : List ℕ
+  pub splits : bs ≡ prefix ++ following
+  pub agrees : Represents (before m (length (t ++ prefix))) (t ++ prefix) ms
   pub unfinished : ¬ IsWhole m.depth (t ++ prefix)
   -- for any bytes after these
   pub error : (more : List ℕ)
-      → FormErrorBehind (bounds m.depth m.bytes) ((t ++ bs) ++ more) (t ++ prefix) r
+      → FormErrorAfter (bounds m.depth m.bytes) ((t ++ bs) ++ more) (t ++ prefix) r
 
 -- what a step returns, of a machine that represented t and ms and has now used bs
-abbrev pub IsAnswer : Out → MachineView → List ℕ → List ℕ → List Mark → Type 0
-IsAnswer outs.More m t bs ms = StandsFor m (t ++ bs) ms
-IsAnswer (outs.Event e) m t bs ms = IsGiven e m t bs ms
-IsAnswer outs.Done m t bs ms = StandsFor m (t ++ bs) ms
-IsAnswer (outs.Refused r) m t bs ms = IsRefused r m t bs ms
+abbrev pub IsResult : Out → MachineView → List ℕ → List ℕ → List Mark → Type 0
+IsResult outs.More m t bs ms = Represents m (t ++ bs) ms
+IsResult (outs.Event e) m t bs ms = IsGiven e m t bs ms
+IsResult outs.Done m t bs ms = Represents m (t ++ bs) ms
+IsResult (outs.Refused r) m t bs ms = IsRefused r m t bs ms
 
 -- an event is reported
 abbrev pub IsEvent : Out → Type 0

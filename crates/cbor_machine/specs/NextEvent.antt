@@ -5,7 +5,7 @@ use Rattle.cbor_head.specs.Prelude.{MayFollow, form, bounds, refusal, refused, I
 use Rattle.cbor_head.specs.declared.reason.Reason.TheVariants.{Read, Truncated, TooLong}
 use Rattle.cbor_head.specs.declared.{reason.Refusal.Refusal, event.Event.Event, event.EventKind.EventKind, event.EventKind.TheVariants.Piece}
 use Rattle.theory_automaton.specs.{Trace.Mark, Trace.total, Marks.marks_of, Bytes.IsEventBytes}
-use Rattle.cbor_machine.specs.Machine.{StandsFor, IsComplete, IsWhole, before}
+use Rattle.cbor_machine.specs.Machine.{Represents, IsComplete, IsWhole, before}
 use Rattle.cbor_machine.specs.MachineView.{MachineView}
 
 -- what contracts see of the events of an item: the machine, the bytes of the last piece, and why
@@ -16,8 +16,8 @@ pub record ItemEventsView : Type 0 where
   pub refusal : Option Refusal
 
 -- The machine has consumed t and reported ms, and an event ends here: ms are all the events of t.
-pub record StandsBetween (m : MachineView) (t : List ℕ) (ms : List Mark) : Type 0 where
-  pub stands : StandsFor m t ms
+pub record AgreesBetween (m : MachineView) (t : List ℕ) (ms : List Mark) : Type 0 where
+  pub agrees : Represents m t ms
   pub whole : total ms ≡ length t
 
 -- One call for the next event: the machine, what the reader holds and the last piece, before and after the call;
@@ -74,14 +74,14 @@ pub record IsNextEvent (e : Event) (c : Call) : Type 0 where
   pub piece_is : IsKept e.kind c.old_piece c.new_piece bytes
   -- the offset of its first byte
   pub place : e.place ≡ length c.taken
-  pub stands : StandsBetween c.new (c.taken ++ bytes) (c.reported ++ marks_of e.width e.kind)
+  pub agrees : AgreesBetween c.new (c.taken ++ bytes) (c.reported ++ marks_of e.width e.kind)
 
 -- all events were reported, and nothing is read
 pub record IsEnd (c : Call) : Type 0 where
   pub complete : IsComplete c.old
   pub consumed : Consumes c.held c.left []
   pub same : c.new_piece ≡ c.old_piece
-  pub stands : StandsBetween c.new c.taken c.reported
+  pub agrees : AgreesBetween c.new c.taken c.reported
 
 -- ---- a refusal
 
@@ -95,7 +95,7 @@ pub record IsCut (f : Refusal) (c : Call) : Type 0 where
   pub verdict : IsVerdict (bounds c.new.depth c.new.bytes) form (c.taken ++ bytes)
       (refused (refusal Truncated (length (c.taken ++ bytes)) (length (c.taken ++ bytes))))
   pub short : length (c.taken ++ bytes) < c.new.bytes
-  pub stands : StandsFor c.new (c.taken ++ bytes) c.reported
+  pub agrees : Represents c.new (c.taken ++ bytes) c.reported
   pub unfinished : ¬ IsWhole c.new.depth (c.taken ++ bytes)
 
 -- the byte limit is reached within the item
@@ -107,7 +107,7 @@ pub record IsTooLong (f : Refusal) (c : Call) : Type 0 where
   -- for any bytes after these
   pub verdict : (more : List ℕ)
       → IsVerdict (bounds c.new.depth c.new.bytes) form ((c.taken ++ bytes) ++ more) (refused f)
-  pub stands : StandsFor (before c.new (length (c.taken ++ bytes))) (c.taken ++ bytes) c.reported
+  pub agrees : Represents (before c.new (length (c.taken ++ bytes))) (c.taken ++ bytes) c.reported
   pub unfinished : ¬ IsWhole c.new.depth (c.taken ++ bytes)
 
 -- a byte that may not follow the bytes before it
@@ -121,7 +121,7 @@ pub record HasFormError (f : Refusal) (c : Call) : Type 0 where
   pub verdict : (more : List ℕ)
       → IsVerdict (bounds c.new.depth c.new.bytes) form ((c.taken ++ bytes ++ byte ∷ []) ++ more) (refused f)
   -- the machine before the byte that was refused
-  pub stands : StandsFor (before c.new (length (c.taken ++ bytes))) (c.taken ++ bytes) c.reported
+  pub agrees : Represents (before c.new (length (c.taken ++ bytes))) (c.taken ++ bytes) c.reported
   pub unfinished : ¬ IsWhole c.new.depth (c.taken ++ bytes)
 
 -- what holds for the event, if one is reported

@@ -19,8 +19,8 @@ IsBasicKind (Tag n) = ⊥
 IsBasicKind kind = Unit {0}
 
 -- if the refusal is after the first byte, that byte begins an integer or a text
-abbrev pub IsBehindBasic : Refusal → Call → Type 0
-IsBehindBasic f c = length c.taken < f.place → (first : ℕ) (rest : List ℕ) → c.held ≡ Some (first ∷ rest) → IsTrue (is_basic (first / 32))
+abbrev pub IsAfterBasic : Refusal → Call → Type 0
+IsAfterBasic f c = length c.taken < f.place → (first : ℕ) (rest : List ℕ) → c.held ≡ Some (first ∷ rest) → IsTrue (is_basic (first / 32))
 
 -- The first byte of an item that is neither an integer nor a text was read, and no more. Such an item may begin there.
 pub record IsOtherKey (f : Refusal) (c : Call) : Type 0 where
@@ -38,7 +38,7 @@ pub record IsOtherKey (f : Refusal) (c : Call) : Type 0 where
 abbrev pub IsNextKey : Result (Option Event) Refusal → Call → Type 0
 IsNextKey (Ok (Some e)) c = IsNextEvent e c × IsBasicKind e.kind
 IsNextKey (Ok None) c = IsEnd c
-IsNextKey (Err f) c = (IsNext (Err f) c × IsBehindBasic f c) ⊎ IsOtherKey f c
+IsNextKey (Err f) c = (IsNext (Err f) c × IsAfterBasic f c) ⊎ IsOtherKey f c
 
 -- what is returned if the last event was complete, and, if kinds of keys are judged, a key or a break is expected
 abbrev pub IsNextOf : Bool → Result (Option Event) Refusal → Call → Type 0

@@ -1,6 +1,6 @@
 -- The machine that the numbers of a saved one hold.
 use Rattle.std.specs.Prelude.{ℕ, ◌≡◌, List, [], length, replicate}
-use Rattle.cbor_machine.specs.{Machine.StandsFor, MachineView.MachineView, inner.Saved.IsHeld, declared.machine.saved.SavedMachine.SavedMachine}
+use Rattle.cbor_machine.specs.{Machine.Represents, MachineView.MachineView, inner.Saved.IsHeld, declared.machine.saved.SavedMachine.SavedMachine}
 
 -- the numbers hold this machine
 pub record Holds (s : SavedMachine) (m : MachineView) : Type 0 where
@@ -18,7 +18,7 @@ pub record Starts (s : SavedMachine) (depth bytes : ℕ) : Type 0 where
   pub holds : Holds s machine
   pub depth_is : machine.depth ≡ depth
   pub bytes_is : machine.bytes ≡ bytes
-  pub stands : StandsFor machine [] []
+  pub agrees : Represents machine [] []
 
 -- only zeros
 abbrev pub AreZeros : List ℕ → Type 0

@@ -5,7 +5,7 @@ use Rattle.theory_automaton.specs.Automaton as automaton
 use Rattle.theory_automaton.specs.Automaton.{run, take_byte, reached}
 use Rattle.theory_automaton.specs.{Trace.Mark, Marks.marks_of, Marks.IsProper}
 use Rattle.cbor_machine.specs.declared.step.Out.TheVariants as outs
-use Rattle.cbor_machine.specs.{State.state_of, State.IsSettled, MachineView.MachineView, Machine.StandsFor, declared.step.Out.Out}
+use Rattle.cbor_machine.specs.{State.state_of, State.IsSettled, MachineView.MachineView, Machine.Represents, declared.step.Out.Out}
 
 -- From one state to the next: bs led there, and reported these marks.
 pub record Ran (old new : MachineView) (bs : List ℕ) (ns : List Mark) : Type 0 where
@@ -32,4 +32,4 @@ IsStep (outs.Refused r) old new bs =
 
 -- all of bs was consumed, and some more marks were reported
 abbrev pub Goes : MachineView → MachineView → List ℕ → Type 0
-Goes old new bs = (t : List ℕ) (ms : List Mark) → StandsFor old t ms → (ns : List Mark) × StandsFor new (t ++ bs) (ms ++ ns)
+Goes old new bs = (t : List ℕ) (ms : List Mark) → Represents old t ms → (ns : List Mark) × Represents new (t ++ bs) (ms ++ ns)

@@ -8,10 +8,10 @@ use Rattle.cbor_machine.specs.{Token.kind_of, declared.token.Token.Token, declar
 
 -- the bytes begin with this head, and an item may have it within these open containers
 pub record IsHeadHere (d : ℕ) (fs : List Frame) (xs : List ℕ) (h : DefiniteHead) : Type 0 where
-  pub behind : List ℕ
+  pub following : List ℕ
   pub rest : List ℕ
-  pub is : xs ≡ h.first ∷ behind
-  pub argument : IsArgument (h.first % 32) behind h.width h.number rest
+  pub is : xs ≡ h.first ∷ following
+  pub argument : IsArgument (h.first % 32) following h.width h.number rest
   pub used : h.used ≡ length xs - length rest
   pub small : h.first < 256
   pub space : h.first < 224 → has_space d fs (major_at (h.first / 32)) ≡ true

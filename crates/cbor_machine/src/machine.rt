@@ -6,7 +6,7 @@ ghost use Rattle.cbor_head.specs.Value.{AreBytes};
 ghost use Rattle.theory_automaton.specs.Trace.{Mark};
 ghost use Rattle.theory_automaton.specs.Reasons.{IsMachineReason};
 ghost use Rattle.cbor_machine.specs.MachineView.{MachineView};
-ghost use Rattle.cbor_machine.specs.Machine.{StandsFor, KeepsLimits, Stays, IsAnswer, IsComplete};
+ghost use Rattle.cbor_machine.specs.Machine.{Represents, KeepsLimits, Stays, IsResult, IsComplete};
 ghost use Rattle.cbor_machine.specs.Machine.{IsIdle, IsEvent, IsMore, IsDone, IfRefused, piece_of};
 ghost use Rattle.cbor_machine.specs.Machine.{IsGiven};
 ghost use Rattle.theory_automaton.specs.Marks.{IsProper, times};
@@ -72,7 +72,7 @@ impl Machine {
     /// A machine before an item's first byte. It does not check the kinds of keys.
     pub fn new(limits: Limits) -> Machine
         ensures limits { (result.depth ≡ limits.depth) × (result.bytes ≡ limits.bytes) }
-        ensures starts { StandsFor result [] [] }
+        ensures starts { Represents result [] [] }
     {
         Machine {
             limits,
@@ -87,7 +87,7 @@ impl Machine {
     /// Begins another item within the same limits, in whatever state the machine is.
     pub fn restart(&mut self)
         ensures limits { (self.new.depth ≡ self.old.depth) × (self.new.bytes ≡ self.old.bytes) }
-        ensures starts { StandsFor self.new [] [] }
+        ensures starts { Represents self.new [] [] }
     {
         self.taken = 0;
         self.reported = 0;
@@ -161,8 +161,8 @@ impl Machine {
     pub fn take_whole(&mut self, input: &[u8]) -> Option<Event>
         requires some { 0 < length input.now }
         requires wanted { length input.now ≤ wanted self.old }
-        ensures answers { IfSome result (λ e. (t : List ℕ) (ms : List Mark)
-            → StandsFor self.old t ms → IsGiven e self.new t input.now ms) }
+        ensures returned { IfSome result (λ e. (t : List ℕ) (ms : List Mark)
+            → Represents self.old t ms → IsGiven e self.new t input.now ms) }
         ensures proper { IfSome result (λ e. IsProper e.width e.kind) }
         ensures piece { IfSome result (λ e. times e.kind ≤ length input.now) }
         ensures limits { KeepsLimits self.old self.new }
@@ -189,7 +189,7 @@ impl Machine {
     pub fn begin_head(&mut self, c: u8) -> bool
         requires { 0 < wanted self.old }
         ensures begun { result ≡ true → (t : List ℕ) (ms : List Mark)
-            → StandsFor self.old t ms → StandsFor self.new (t ++ c ∷ []) ms }
+            → Represents self.old t ms → Represents self.new (t ++ c ∷ []) ms }
         ensures limits { KeepsLimits self.old self.new }
         ensures taken { result ≡ true → self.new.taken ≡ self.old.taken + 1 }
         ensures none { result ≡ false → self.new ≡ self.old }
@@ -220,8 +220,8 @@ impl Machine {
         ensures limits { KeepsLimits self.old self.new }
 
         // For all bytes and marks that the machine represented.
-        ensures answers { (t : List ℕ) (ms : List Mark) → StandsFor self.old t ms
-            → IsAnswer result.out self.new t (take result.used input.now) ms }
+        ensures returned { (t : List ℕ) (ms : List Mark) → Represents self.old t ms
+            → IsResult result.out self.new t (take result.used input.now) ms }
 
         // At most the expected bytes: all are used. Of a payload, the lesser of the input's length
         // and what is expected.
@@ -249,8 +249,8 @@ pub fn take_part(machine: &mut Machine, input: &[u8]) -> Step
     ensures limits { KeepsLimits machine.old machine.new }
     ensures walked { machine.old.refusal ≡ None
         → IsStep result.out machine.old machine.new (take result.used input.now) }
-    ensures answers { (t : List ℕ) (ms : List Mark) → StandsFor machine.old t ms
-        → IsAnswer result.out machine.new t (take result.used input.now) ms }
+    ensures returned { (t : List ℕ) (ms : List Mark) → Represents machine.old t ms
+        → IsResult result.out machine.new t (take result.used input.now) ms }
     ensures progress { IsEvent result.out → 0 < result.used }
     ensures piece { piece_of result.out ≤ result.used }
     ensures whole { IsMore result.out

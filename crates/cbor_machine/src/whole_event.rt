@@ -106,10 +106,10 @@ pub(crate) fn prefix_head(
     ensures exact { length rest.now ≡ 1
         → is_some result ≡ begins_short depth (length container_stack.now) rest.now }
 {
-    let (first, behind) = rest.split_first()?;
+    let (first, following) = rest.split_first()?;
     let c = *first;
     let low = c % 32;
-    let argument = read_argument(low, behind)?;
+    let argument = read_argument(low, following)?;
     let used = rest.len() - argument.rest.len();
     let (width, number) = (argument.width, argument.number);
     if c >= 0xe0 {

@@ -8,7 +8,7 @@ use Rattle.cbor_builder.specs.declared.repeat.Repeat.{Repeat}
 use Rattle.theory_verdicts.specs.Given.{opens, full_open, IsHeldAs, IsNoMap}
 use Rattle.theory_verdicts.specs.Reading.{string_major}
 use Rattle.cbor_parser.specs.Sink.{FindsRepeat, IsKeyless, Repeats}
-use Rattle.cbor_parser.{specs.CanonSink.canon_stands, specs.CanonSink.canon_holds, proofs.CanonGiven.stands-full}
+use Rattle.cbor_parser.{specs.CanonSink.canon_agrees, specs.CanonSink.canon_holds, proofs.CanonGiven.agrees-full}
 
 -- ---- by the keys of the innermost alone
 
@@ -51,16 +51,16 @@ module _ (g : Built) (repeat : Repeat) (h : IsRepeatReported g.open_levels repea
   abbrev reported-in : List Open → Type 0
   reported-in os = IsRepeatReported os repeat.outside repeat.pair
 
-  pub canon-finds : FindsRepeat Built canon_stands canon_holds g repeat
+  pub canon-finds : FindsRepeat Built canon_agrees canon_holds g repeat
   canon-finds start ls (inl at) = (start.order, subst reported-in at.1 h)
   canon-finds start ls (inr (is_text, content, at)) =
       let o = start.order in
       (o, around-reported (a_string (string_major is_text) content) (opens o ls) repeat.outside repeat.pair refl (subst reported-in at.1 h))
 
-  pub canon-repeats : (HasDistinctKeysSoFar g.open_levels → ⊥) → (trusts t : Bool) → Repeats Built canon_stands trusts t g repeat
+  pub canon-repeats : (HasDistinctKeysSoFar g.open_levels → ⊥) → (trusts t : Bool) → Repeats Built canon_agrees trusts t g repeat
   canon-repeats differ trusts t start d ls s fills full =
       let o = start.order in
-      let at = (stands-full t start g d ls s fills full).1 in (
+      let at = (agrees-full t start g d ls s fills full).1 in (
         (o, full-reported o at.1 s (opens o ls) repeat.outside repeat.pair at.2.held (subst reported-in at.3 h)),
         λ keyless. differ (subst HasDistinctKeysSoFar (sym at.3) (keyless-distinct o at.1 s at.2.held keyless)),
       )

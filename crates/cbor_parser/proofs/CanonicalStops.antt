@@ -4,7 +4,7 @@ use Rattle.cbor_head.specs.Prelude.{plain, strict, Bounds, IsVerdict, refused, r
 use Rattle.cbor_head.specs.declared.order.KeyOrder as orders
 use Rattle.cbor_head.specs.declared.reason.{Reason.Reason, Reason.TheVariants.Truncated, Reason.TheVariants.RepeatedKey, Refusal.Refusal}
 use Rattle.theory_values.proofs.PlainVerdicts.{refused_plainly}
-use Rattle.theory_verdicts.specs.Stop.{RepeatsKey, IsStopped, IsRefused, IsAnswered}
+use Rattle.theory_verdicts.specs.Stop.{RepeatsKey, IsStopped, IsRefused, IsReportedAs}
 use Rattle.theory_verdicts.proofs.{Reasons.never-given, PathVerdict.complaint_stops, PathVerdict.stopped}
 use Rattle.cbor_parser.specs.NotCanonical.{strict_reason, IsNotCanonical}
 
@@ -15,7 +15,7 @@ same_reason _ apart = refl
 module _ (o : orders.KeyOrder) (limits : Bounds) (input : List ℕ) where
   -- ---- the verdict
 
-  stop_reported : (f : Refusal) → IsStopped (strict o) limits (take limits.bytes input) f → (g : Refusal) → IsAnswered limits.bytes (take limits.bytes input) f g → IsNotCanonical limits o input g
+  stop_reported : (f : Refusal) → IsStopped (strict o) limits (take limits.bytes input) f → (g : Refusal) → IsReportedAs limits.bytes (take limits.bytes input) f g → IsNotCanonical limits o input g
   stop_reported f h g a =
       let v = stopped (strict o) limits input f h g a in
       let other : g.reason ≢ RepeatedKey = never-given limits (strict o) input g RepeatedKey (λ x. x) (λ x. cc x) (λ e. cc e) v in
@@ -31,7 +31,7 @@ module _ (o : orders.KeyOrder) (limits : Bounds) (input : List ℕ) where
   }
 
   -- this is the result for an input, within n bytes
-  pub not_canonical : (f : Refusal) → IsRefused o limits (take limits.bytes input) f → (g : Refusal) → IsAnswered limits.bytes (take limits.bytes input) f g → IsNotCanonical limits o input g
+  pub not_canonical : (f : Refusal) → IsRefused o limits (take limits.bytes input) f → (g : Refusal) → IsReportedAs limits.bytes (take limits.bytes input) f g → IsNotCanonical limits o input g
   not_canonical f (inl h) g a = stop_reported f h g a
   not_canonical f (inr h) g a =
       let no_end : f.reason ≡ Truncated → ⊥ = λ e. (let same : RepeatedKey ≡ Truncated = sym h.is ∙ e in cc same) in

@@ -14,7 +14,7 @@ use Rattle.theory_verdicts.specs.Path.{a_member, a_key, a_value, tagged, level_b
 use Rattle.theory_verdicts.proofs.PathSteps.{more_members, more_pairs, member_next, member_bytes, key_next as expected_next, key_bytes, value_next as pair_next, value_bytes, array_ends, array_bytes_end, map_ends, map_bytes_end, tag_ends, tag_bytes_end}
 use Rattle.theory_verdicts.{specs.Frame.keys_onto, specs.Judged.IsJudged, specs.Kinds.KeepsToKinds, specs.Stop.HasComplaint, proofs.PathLevels.judged_key_path}
 use Rattle.theory_verdicts.proofs.PlainPaths.{judged_repeat}
-use Rattle.cbor_parser.specs.inner.Cells.{StrictCell, last_key, key_at, IsKeyExpected, AreCells, StandsAt, HasEndedAt, HasClosed, OutOfOrder, TakesKey}
+use Rattle.cbor_parser.specs.inner.Cells.{StrictCell, last_key, key_at, IsKeyExpected, AreCells, AgreesAt, HasEndedAt, HasClosed, OutOfOrder, TakesKey}
 use Rattle.cbor_parser.specs.declared.container.Expected.TheVariants.{Item, Key, Value}
 use Rattle.cbor_parser.specs.inner.OpenContainer.{after, after_expected, fewer}
 use Rattle.cbor_parser.specs.declared.{container.Expected.Expected, last_key.LastKey.LastKey}
@@ -66,10 +66,10 @@ module _ (o : KeyOrder) (limits : Bounds) (input : List ℕ) (at : ℕ) where
       go (a_value w n done k ∷ ls) cs i a keeps e f = absurd (item_is_no_value c expected a.0.1.expected)
       go (tagged w n ∷ ls) cs i a keeps e f = closes_by ls h.item (tag w n h.item) (bytes_before (tagged w n ∷ ls)) cs (tag_ends (strict o) limits.depth ls w n h.item i) a.1 keeps h.rest e f (tag_bytes_end (strict o) limits.depth ls w n h.item)
 
-  pub item_next : (c new : StrictCell) (cs : List StrictCell) → c.expected ≡ Item → c.left ≡ suc new.left → new.expected ≡ Item → new.is_indefinite ≡ false → HasEndedAt o limits input (c ∷ cs) at → StandsAt o limits input (new ∷ cs) at
+  pub item_next : (c new : StrictCell) (cs : List StrictCell) → c.expected ≡ Item → c.left ≡ suc new.left → new.expected ≡ Item → new.is_indefinite ≡ false → HasEndedAt o limits input (c ∷ cs) at → AgreesAt o limits input (new ∷ cs) at
   item_next c new cs expected more still definite h = go h.ls cs h.ended h.are h.keeps h.bytes h.here
     where
-      go : (ls : List path.Level) (cs : List StrictCell) → HasEnded (strict o) limits.depth ls h.item → AreCells input ls (c ∷ cs) → KeepsToKinds limits (strict o) (bytes_before ls ++ spell h.item) → input ≡ (bytes_before ls ++ spell h.item) ++ h.rest → at ≡ length (bytes_before ls ++ spell h.item) → StandsAt o limits input (new ∷ cs) at
+      go : (ls : List path.Level) (cs : List StrictCell) → HasEnded (strict o) limits.depth ls h.item → AreCells input ls (c ∷ cs) → KeepsToKinds limits (strict o) (bytes_before ls ++ spell h.item) → input ≡ (bytes_before ls ++ spell h.item) ++ h.rest → at ≡ length (bytes_before ls ++ spell h.item) → AgreesAt o limits input (new ∷ cs) at
       go [] [] i a keeps e f = absurd (omega (arith, more, a.1))
       go [] (x ∷ xs) i a keeps e f = absurd a
       go (a_member w zero done ∷ ls) cs i a keeps e f = absurd (omega (arith, more, a.0.2))
@@ -102,10 +102,10 @@ module _ (o : KeyOrder) (limits : Bounds) (input : List ℕ) (at : ℕ) where
       go (a_value w (suc n) done k ∷ ls) cs i a keeps e f = absurd (omega (arith, none, a.0.1.left))
       go (tagged w n ∷ ls) cs i a keeps e f = absurd (item_is_no_value c a.0.0 expected)
 
-  pub value_next : (c new : StrictCell) (cs : List StrictCell) → c.expected ≡ Value → c.left ≡ suc new.left → new.expected ≡ Key → new.is_indefinite ≡ false → new.kept.key ≡ at → last_key input new.kept ≡ last_key input c.kept → new.kept.prefix ≡ c.kept.prefix → HasEndedAt o limits input (c ∷ cs) at → StandsAt o limits input (new ∷ cs) at
+  pub value_next : (c new : StrictCell) (cs : List StrictCell) → c.expected ≡ Value → c.left ≡ suc new.left → new.expected ≡ Key → new.is_indefinite ≡ false → new.kept.key ≡ at → last_key input new.kept ≡ last_key input c.kept → new.kept.prefix ≡ c.kept.prefix → HasEndedAt o limits input (c ∷ cs) at → AgreesAt o limits input (new ∷ cs) at
   value_next c new cs expected more is_key definite begins kept prefix h = go h.ls cs h.ended h.are h.keeps h.bytes h.here
     where
-      go : (ls : List path.Level) (cs : List StrictCell) → HasEnded (strict o) limits.depth ls h.item → AreCells input ls (c ∷ cs) → KeepsToKinds limits (strict o) (bytes_before ls ++ spell h.item) → input ≡ (bytes_before ls ++ spell h.item) ++ h.rest → at ≡ length (bytes_before ls ++ spell h.item) → StandsAt o limits input (new ∷ cs) at
+      go : (ls : List path.Level) (cs : List StrictCell) → HasEnded (strict o) limits.depth ls h.item → AreCells input ls (c ∷ cs) → KeepsToKinds limits (strict o) (bytes_before ls ++ spell h.item) → input ≡ (bytes_before ls ++ spell h.item) ++ h.rest → at ≡ length (bytes_before ls ++ spell h.item) → AgreesAt o limits input (new ∷ cs) at
       go [] [] i a keeps e f = absurd (item_is_no_value c a.0 expected)
       go [] (x ∷ xs) i a keeps e f = absurd a
       go (a_member w n done ∷ ls) cs i a keeps e f = absurd (item_is_no_value c a.0.1 expected)
@@ -168,7 +168,7 @@ module _ (o : KeyOrder) (limits : Bounds) (input : List ℕ) (at : ℕ) where
     before_end : c.kept.key ≤ at
     before_end = omega (arith, begins_at, k.here, length-append (bytes_before (a_key k.w k.left k.done ∷ k.ls)) (spell k.item))
 
-  pub key_next : (c new : StrictCell) (cs : List StrictCell) → c.expected ≡ Key → new.expected ≡ Value → new.left ≡ c.left → new.is_indefinite ≡ c.is_indefinite → TakesKey true o input at c.kept new.kept → HasEndedAt o limits input (c ∷ cs) at → StandsAt o limits input (new ∷ cs) at
+  pub key_next : (c new : StrictCell) (cs : List StrictCell) → c.expected ≡ Key → new.expected ≡ Value → new.left ≡ c.left → new.is_indefinite ≡ c.is_indefinite → TakesKey true o input at c.kept new.kept → HasEndedAt o limits input (c ∷ cs) at → AgreesAt o limits input (new ∷ cs) at
   key_next c new cs expected is_value same_left same_length t h =
       let k = key_here c cs expected h in
       let key = key_bytes_are c cs k in
@@ -207,10 +207,10 @@ module _ (o : KeyOrder) (limits : Bounds) (input : List ℕ) (at : ℕ) where
         let key = key_bytes_are c cs k in
         let same : key_lt o (last_key input c.kept) (key_at input c.kept at) ≡ key_lt o (keys.last_key k.done) (spell k.item) =
         ap (λ (x : List ℕ). key_lt o x (key_at input c.kept at)) k.is.holds.is ∙ ap (key_lt o (keys.last_key k.done)) key in
-        let not_behind : IsTrue (key_lt o (keys.last_key k.done) (spell k.item)) → ⊥ = λ g. true≢false (sym g ∙ sym same ∙ below) in
+        let not_after : IsTrue (key_lt o (keys.last_key k.done) (spell k.item)) → ⊥ = λ g. true≢false (sym g ∙ sym same ∙ below) in
         record {
           strictly = has_complaint (strict o) reasons.KeyOrder k.keeps (judged_key_path (strict o) limits.depth k.w k.left k.done k.ls k.item _ k.ended
-              (key-falls o (length here) k.item (spell k.item) refl (keys_onto [] k.done) (keys.last_key k.done) (last_is k.done) not_behind));
+              (key-falls o (length here) k.item (spell k.item) refl (keys_onto [] k.done) (keys.last_key k.done) (last_is k.done) not_after));
           repeated = λ e. has_complaint plain reasons.RepeatedKey k.keeps (judged_repeat o limits.depth k.w k.left k.done k.ls k.item k.ended (sym k.is.holds.is ∙ e ∙ key));
         }
 
@@ -248,17 +248,17 @@ module _ (o : KeyOrder) (limits : Bounds) (input : List ℕ) (at : ℕ) where
   after_is e c r is h = ap (λ (x : Expected). after_expected x c) (sym is) ∙ h
 
   module _ (c new : StrictCell) (cs : List StrictCell) (h : HasEndedAt o limits input (c ∷ cs) at) where
-    pub item_goes : c.expected ≡ Item → after c ≡ Some new → StandsAt o limits input (new ∷ cs) at
+    pub item_goes : c.expected ≡ Item → after c ≡ Some new → AgreesAt o limits input (new ∷ cs) at
     item_goes e more =
         let f = fewer_some c.expected c.left c.is_indefinite c.kept new (definite_cell c cs h) (after_is Item c (Some new) e more) in
         item_next c new cs e f.0 (f.1 ∙ e) f.2 h
 
-    pub value_goes : c.expected ≡ Value → after (record c { kept = record c.kept { key = at } }) ≡ Some new → StandsAt o limits input (new ∷ cs) at
+    pub value_goes : c.expected ≡ Value → after (record c { kept = record c.kept { key = at } }) ≡ Some new → AgreesAt o limits input (new ∷ cs) at
     value_goes e more =
         let f = fewer_some Key c.left c.is_indefinite (record c.kept { key = at }) new (definite_cell c cs h) (after_is Value (record c { kept = record c.kept { key = at } }) (Some new) e more) in
         value_next c new cs e f.0 f.1 f.2 (ap (λ (k : LastKey). k.key) f.3) (ap (last_key input) f.3) (ap (λ (k : LastKey). k.prefix) f.3) h
 
-    pub key_goes : (kept : LastKey) → c.expected ≡ Key → TakesKey true o input at c.kept kept → after (record c { kept = kept }) ≡ Some new → StandsAt o limits input (new ∷ cs) at
+    pub key_goes : (kept : LastKey) → c.expected ≡ Key → TakesKey true o input at c.kept kept → after (record c { kept = kept }) ≡ Some new → AgreesAt o limits input (new ∷ cs) at
     key_goes kept e t more =
         let same : record c { expected = Value; kept = kept } ≡ new = cc (after_is Key (record c { kept = kept }) (Some new) e more) in
         key_next c new cs e (sym (ap (λ (x : StrictCell). x.expected) same)) (sym (ap (λ (x : StrictCell). x.left) same)) (sym (ap (λ (x : StrictCell). x.is_indefinite) same))

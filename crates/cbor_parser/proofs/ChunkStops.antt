@@ -7,13 +7,13 @@ use Rattle.theory_verdicts.{specs.Reading.string_major, proofs.Leaves.chunks_byt
 use Rattle.cbor_parser.specs.{Strings.IsStringFault, inner.Faults.AreChunksRefused, inner.Parts.IsHead, inner.Parts.chunked_from}
 use Rattle.cbor_parser.proofs.GivenItems.{head-here}
 
-pub chunk_fault_here : (t : Bool) (behind rest : List ℕ) (s : AreChunksRead t (chunked_from t behind) rest) (at : ℕ) (f : Refusal) (h : Argument) → IsHead (string_major t) h.number rest h.rest.now → (96 ≤ get_or rest 0 0 → t ≡ true)
-    → IsStringFault rest h (at + 1 + length behind - length rest) f → AreChunksRefused (chunked_from t behind) at f
-chunk_fault_here t behind rest s at f h head text (inl x) = λ space.
-    let end : at + 1 + length behind - length rest + length rest ≡ at + 1 + length behind = omega (arith, ap length s.bytes, length-append (chunks_bytes (string_major t) s.done) rest) in
-    chunk_cut_here t (chunked_from t behind) rest s space at (at + 1 + length behind) (omega arith) f head.width h.number h.rest.now head.is head.holds (x.is ∙ ap (λ (n : ℕ). refusal Truncated n n) end) x.less
-chunk_fault_here t behind rest s at f h head text (inr x) = λ space.
-    no_text_chunk_here t (chunked_from t behind) rest s space at (at + 1 + length behind) (omega arith) f head.width h.number h.rest.now head.is head.holds x.is (text x.text) x.inside x.none
+pub chunk_fault_here : (t : Bool) (following rest : List ℕ) (s : AreChunksRead t (chunked_from t following) rest) (at : ℕ) (f : Refusal) (h : Argument) → IsHead (string_major t) h.number rest h.rest.now → (96 ≤ get_or rest 0 0 → t ≡ true)
+    → IsStringFault rest h (at + 1 + length following - length rest) f → AreChunksRefused (chunked_from t following) at f
+chunk_fault_here t following rest s at f h head text (inl x) = λ space.
+    let end : at + 1 + length following - length rest + length rest ≡ at + 1 + length following = omega (arith, ap length s.bytes, length-append (chunks_bytes (string_major t) s.done) rest) in
+    chunk_cut_here t (chunked_from t following) rest s space at (at + 1 + length following) (omega arith) f head.width h.number h.rest.now head.is head.holds (x.is ∙ ap (λ (n : ℕ). refusal Truncated n n) end) x.less
+chunk_fault_here t following rest s at f h head text (inr x) = λ space.
+    no_text_chunk_here t (chunked_from t following) rest s space at (at + 1 + length following) (omega arith) f head.width h.number h.rest.now head.is head.holds x.is (text x.text) x.inside x.none
 
 -- ---- a chunk by its first byte
 

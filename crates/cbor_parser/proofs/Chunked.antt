@@ -11,8 +11,8 @@ use Rattle.cbor_parser.specs.Sink.{Reported, BeginsString, IsChunkExpected, Grow
 use Rattle.cbor_parser.specs.inner.Parts.{IsHead, IsPayload, chunked_from}
 use Rattle.cbor_parser.proofs.GivenItems.{IsScalar, string-bytes}
 
-pub none-read : (t : Bool) (behind : List ℕ) → AreBytes behind → (read : AreChunksRead t (chunked_from t behind) behind) × (read.done ≡ [])
-none-read t behind are = (record { done = []; so_far = λ at. record { are = tt; opener_clean = λ c x. cc x.0; clean = λ c x. x }; bytes = refl; small = are }, refl)
+pub none-read : (t : Bool) (following : List ℕ) → AreBytes following → (read : AreChunksRead t (chunked_from t following) following) × (read.done ≡ [])
+none-read t following are = (record { done = []; so_far = λ at. record { are = tt; opener_clean = λ c x. cc x.0; clean = λ c x. x }; bytes = refl; small = are }, refl)
 
 -- one more
 pub one-read : (t : Bool) (b rest : List ℕ) (s : AreChunksRead t b rest) (n : ℕ) (from : List ℕ) → IsHead (string_major t) n rest from → n ≤ length from → (t ≡ true → IsUtf8 (take n from))
@@ -36,25 +36,25 @@ one-read t b rest s n from h inside utf8 =
 
 -- ---- given to a sink
 
-pub record AreChunks (S : Type 0) (stands : S → S → ParseState → Type 0) (holds : S → S → List Level → Bool → List ℕ → Type 0) (key t : Bool) (begin rest : List ℕ) (g now : S) : Type 0 where
+pub record AreChunks (S : Type 0) (agrees : S → S → ParseState → Type 0) (holds : S → S → List Level → Bool → List ℕ → Type 0) (key t : Bool) (begin rest : List ℕ) (g now : S) : Type 0 where
   pub read : AreChunksRead t begin rest
-  pub given : (start : S) (ls : List Level) → Reported S stands key start g (item_expected ls) → holds start now ls t (chunks_joined read.done)
+  pub given : (start : S) (ls : List Level) → Reported S agrees key start g (item_expected ls) → holds start now ls t (chunks_joined read.done)
 
-module _ (S : Type 0) (stands : S → S → ParseState → Type 0) (holds : S → S → List Level → Bool → List ℕ → Type 0) (key t : Bool) (begin : List ℕ) (g : S) where
-  pub no-chunks : (behind : List ℕ) (now : S) → begin ≡ chunked_from t behind → AreBytes behind → BeginsString S stands holds key t g now → AreChunks S stands holds key t begin behind g now
-  no-chunks behind now is are begins =
-      let (read, none) = none-read t behind are in
-      subst (λ (x : List ℕ). AreChunks S stands holds key t x behind g now) (sym is) (record { read = read; given = λ start ls expected. subst (λ (ks : List Chunk). holds start now ls t (chunks_joined ks)) (sym none) (begins start ls expected) })
+module _ (S : Type 0) (agrees : S → S → ParseState → Type 0) (holds : S → S → List Level → Bool → List ℕ → Type 0) (key t : Bool) (begin : List ℕ) (g : S) where
+  pub no-chunks : (following : List ℕ) (now : S) → begin ≡ chunked_from t following → AreBytes following → BeginsString S agrees holds key t g now → AreChunks S agrees holds key t begin following g now
+  no-chunks following now is are begins =
+      let (read, none) = none-read t following are in
+      subst (λ (x : List ℕ). AreChunks S agrees holds key t x following g now) (sym is) (record { read = read; given = λ start ls expected. subst (λ (ks : List Chunk). holds start now ls t (chunks_joined ks)) (sym none) (begins start ls expected) })
 
-  module _ (rest : List ℕ) (now : S) (s : AreChunks S stands holds key t begin rest g now) where
+  module _ (rest : List ℕ) (now : S) (s : AreChunks S agrees holds key t begin rest g now) where
     -- a chunk is expected
-    pub chunk-expected : IsItemExpected S stands key g → IsChunkExpected S holds key t now
+    pub chunk-expected : IsItemExpected S agrees key g → IsChunkExpected S holds key t now
     chunk-expected (start, d, ls, space, expected) = (start, d, ls, chunks_joined s.read.done, space, s.given start ls expected, expected.1)
 
-    pub one-more : (n size : ℕ) (from : List ℕ) (new : S) → IsHead (string_major t) n rest from → IsPayload false t n size from → GrowsString S holds key t (take size from) now new → AreChunks S stands holds key t begin (drop size from) g new
+    pub one-more : (n size : ℕ) (from : List ℕ) (new : S) → IsHead (string_major t) n rest from → IsPayload false t n size from → GrowsString S holds key t (take size from) now new → AreChunks S agrees holds key t begin (drop size from) g new
     one-more n size from new h p grows =
         let (read, joined) = one-read t begin rest s.read n from h p.inside (p.utf8 refl) in
-        subst (λ (i : ℕ). AreChunks S stands holds key t begin (drop i from) g new) (sym p.all) (record {
+        subst (λ (i : ℕ). AreChunks S agrees holds key t begin (drop i from) g new) (sym p.all) (record {
           read = read;
           given = λ start ls expected.
               subst (holds start new ls t) (ap (λ (i : ℕ). chunks_joined s.read.done ++ take i from) p.all ∙ sym joined)

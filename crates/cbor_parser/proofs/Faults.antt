@@ -41,15 +41,15 @@ fault_same r b c at here f g is e h = subst (λ (x : List ℕ). IsFault r x at h
 pub cut_off : (r : Rules) (at end : ℕ) (here : Here) → end ≡ at + 0 → IsFault r [] at here (refusal Truncated end end)
 cut_off r at end here e = λ limits ls clean breaks keeps asked place are. nothing_here r here.space at end e limits ls clean tt (record { before = keeps; here = λ kinds expected. tt }) place are
 
-module _ (r : Rules) (first : ℕ) (behind : List ℕ) (at : ℕ) (here : Here) (no_break : first ≡ 0xff → here.may_break ≡ true → ⊥) where
+module _ (r : Rules) (first : ℕ) (following : List ℕ) (at : ℕ) (here : Here) (no_break : first ≡ 0xff → here.may_break ≡ true → ⊥) where
   abbrev b : List ℕ
-  b = first ∷ behind
+  b = first ∷ following
 
   pub fault_initial_byte_error : (reason : Reason) → IsInitialByteError first here.space reason → IsFault r b at here (refusal reason at (at + 1))
-  fault_initial_byte_error reason h = λ limits ls clean breaks keeps asked place are. initial_byte_error_stops r here.space first behind at reason h limits ls clean (λ e m. no_break e (breaks m)) keeps place are
+  fault_initial_byte_error reason h = λ limits ls clean breaks keeps asked place are. initial_byte_error_stops r here.space first following at reason h limits ls clean (λ e m. no_break e (breaks m)) keeps place are
 
   pub fault_of_kind : IsTrue r.kinds → MayBegin first here.space → here.is_key ≡ true → ¬ IsTrue (is_basic (first / 32)) → IsFault r b at here (refusal KeyKind at (at + 1))
-  fault_of_kind kinds placed key other = λ limits ls clean breaks keeps asked place are. let both = asked.both key in kind_refused here.space first behind at placed other r kinds limits ls clean keeps both.0 both.1 place are
+  fault_of_kind kinds placed key other = λ limits ls clean breaks keeps asked place are. let both = asked.both key in kind_refused here.space first following at placed other r kinds limits ls clean keeps both.0 both.1 place are
 
   -- if the kind of a key is judged, the key is fit
   pub fault_of : (f : Refusal) → (here.is_key ≡ true → IsFitPrefix b) → IsRefusedBy r here.space b at f → IsFault r b at here f
@@ -68,17 +68,17 @@ module _ (r : Rules) (first : ℕ) (behind : List ℕ) (at : ℕ) (here : Here) 
 -- ---- what has no length
 
 -- an opener, or by the strict rules nothing
-pub indefinite_fault : (s : Bool) (xs : List ℕ) (first : ℕ) (behind : List ℕ) (at : ℕ) (here : Here) → xs ≡ first ∷ behind → (first ≡ 0xff → here.may_break ≡ true → ⊥) → (here.is_key ≡ true → IsFitPrefix (first ∷ behind)) → MayBegin first here.space → first % 32 ≡ 31
-    → (start : ItemStart) → IsIndefiniteStart s first behind at start → IsRefusedStart s xs at here start
-indefinite_fault true xs first behind at here is no_break fit placed low start e =
+pub indefinite_fault : (s : Bool) (xs : List ℕ) (first : ℕ) (following : List ℕ) (at : ℕ) (here : Here) → xs ≡ first ∷ following → (first ≡ 0xff → here.may_break ≡ true → ⊥) → (here.is_key ≡ true → IsFitPrefix (first ∷ following)) → MayBegin first here.space → first % 32 ≡ 31
+    → (start : ItemStart) → IsIndefiniteStart s first following at start → IsRefusedStart s xs at here start
+indefinite_fault true xs first following at here is no_break fit placed low start e =
     subst (IsRefusedStart true xs at here) (sym e) (λ r rules.
     let opens : (64 ≤ first) × (first < 192) = elim placed.low [ inl l ↦ absurd (omega (arith, l, low)) | inr l ↦ (l.1, l.2) ] in
     let f = refusal Indefinite at (at + 1) in
-    fault_same r xs (first ∷ behind) at here f f is refl
-    (fault_of r first behind at here no_break f fit (indefinite_here r here.space first behind at (heads_asked true r rules refl) low opens.0 opens.1 placed.fits)))
-indefinite_fault false xs first behind at here is no_break fit placed low (starts.Refused f) h = λ r rules.
-    fault_same r xs (first ∷ behind) at here f f is refl
-    (fault_of r first behind at here no_break f fit (subst (λ (x : Rules). IsRefusedBy x here.space (first ∷ behind) at f) (sym rules) (h here.space)))
-indefinite_fault false xs first behind at here is no_break fit placed low starts.Indefinite h = tt
-indefinite_fault false xs first behind at here is no_break fit placed low (starts.Leaf used) h = absurd h
-indefinite_fault false xs first behind at here is no_break fit placed low (starts.Opens expected left used) h = absurd h
+    fault_same r xs (first ∷ following) at here f f is refl
+    (fault_of r first following at here no_break f fit (indefinite_here r here.space first following at (heads_asked true r rules refl) low opens.0 opens.1 placed.fits)))
+indefinite_fault false xs first following at here is no_break fit placed low (starts.Refused f) h = λ r rules.
+    fault_same r xs (first ∷ following) at here f f is refl
+    (fault_of r first following at here no_break f fit (subst (λ (x : Rules). IsRefusedBy x here.space (first ∷ following) at f) (sym rules) (h here.space)))
+indefinite_fault false xs first following at here is no_break fit placed low starts.Indefinite h = tt
+indefinite_fault false xs first following at here is no_break fit placed low (starts.Leaf used) h = absurd h
+indefinite_fault false xs first following at here is no_break fit placed low (starts.Opens expected left used) h = absurd h

@@ -5,7 +5,7 @@ use Rattle.cbor_head.specs.declared.{keys.Keys.TheVariants.IntegersAndTexts, rea
 use Rattle.theory_verdicts.specs.Levels.{Level, ParseState, bytes_before}
 use Rattle.theory_verdicts.specs.Path as path
 use Rattle.theory_verdicts.proofs.LevelFrames.{paths_of, paths_length, paths_bytes}
-use Rattle.theory_verdicts.{specs.Kinds.KeepsToKinds, specs.Stop.IsStopped, specs.Stop.IsAnswered, proofs.PathVerdict.stopped}
+use Rattle.theory_verdicts.{specs.Kinds.KeepsToKinds, specs.Stop.IsStopped, specs.Stop.IsReportedAs, proofs.PathVerdict.stopped}
 use Rattle.cbor_parser.proofs.LevelPaths.{paths_clean, path_expected, breaks_path}
 use Rattle.cbor_parser.specs.{inner.Parser.IsExpected, inner.Parser.HasCome, Stack.around, Stack.open_levels, declared.container.Expected.Expected}
 use Rattle.cbor_parser.specs.declared.{container.Expected.TheVariants.Key, container.Expected.TheVariants.Value, stack.Stack.Stack}
@@ -17,16 +17,16 @@ pub record IsAsked (limits : Bounds) (expected : Expected) (is_key : Bool) : Typ
   pub both : is_key ≡ true → (limits.keys ≡ IntegersAndTexts) × (expected ≡ Key)
   pub none : is_key ≡ false → limits.keys ≡ IntegersAndTexts → expected ≡ Key → ⊥
 
-module _ (S : Type 0) (stands : S → S → ParseState → Type 0) (trusts : Bool) (holds : S → S → List Level → Bool → List ℕ → Type 0) (start : S) where
+module _ (S : Type 0) (agrees : S → S → ParseState → Type 0) (trusts : Bool) (holds : S → S → List Level → Bool → List ℕ → Type 0) (start : S) where
   -- an item is expected
-  pub come-expected : (d : ℕ) (input : List ℕ) (cs : List Cell) (g : S) (rest : List ℕ) → IsExpected S stands trusts start d input cs g rest → HasCome S stands trusts holds start d input cs g rest
+  pub come-expected : (d : ℕ) (input : List ℕ) (cs : List Cell) (g : S) (rest : List ℕ) → IsExpected S agrees trusts start d input cs g rest → HasCome S agrees trusts holds start d input cs g rest
   come-expected d input cs g rest h = record { ls = h.ls; levels = h.levels; cells = h.cells; given = inl h.given; bytes = h.bytes; small = h.small; known = h.known }
 
-  module _ (limits : Bounds) (bytes input : List ℕ) (within : input ≡ take limits.bytes bytes) (are : AreBytes input) (k : Stack Cell) (cells : List Cell) (low : k.height ≤ length cells) (g : S) (rest : List ℕ) (come : HasCome S stands trusts holds start limits.depth input (open_levels Cell k cells) g rest) (kept : KeepsBefore limits.depth limits.keys input rest) where
+  module _ (limits : Bounds) (bytes input : List ℕ) (within : input ≡ take limits.bytes bytes) (are : AreBytes input) (k : Stack Cell) (cells : List Cell) (low : k.height ≤ length cells) (g : S) (rest : List ℕ) (come : HasCome S agrees trusts holds start limits.depth input (open_levels Cell k cells) g rest) (kept : KeepsBefore limits.depth limits.keys input rest) where
     -- what is found at the offset of the rest, if no open map has two keys that are the same
-    pub stopped-there : (at : ℕ) (here : Here) (f answer : Refusal) → AreKeysDistinct come.ls → at ≡ length input - length rest → here.space ≡ nat_lt k.height limits.depth → IsAsked limits k.top.expected here.is_key
-        → (k.top.is_indefinite ≡ true → k.top.expected ≢ Value → here.may_break ≡ true) → IsFault plain rest at here f → IsAnswered limits.bytes input f answer → IsVerdict limits plain bytes (refused answer)
-    stopped-there at here f answer apart there roomy asked breaks fault answered =
+    pub stopped-there : (at : ℕ) (here : Here) (f outcome : Refusal) → AreKeysDistinct come.ls → at ≡ length input - length rest → here.space ≡ nat_lt k.height limits.depth → IsAsked limits k.top.expected here.is_key
+        → (k.top.is_indefinite ≡ true → k.top.expected ≢ Value → here.may_break ≡ true) → IsFault plain rest at here f → IsReportedAs limits.bytes input f outcome → IsVerdict limits plain bytes (refused outcome)
+    stopped-there at here f outcome apart there roomy asked breaks fault is_returned =
         let ls = come.ls in
         let ps = paths_of ls in
         let same = paths_bytes ls in
@@ -47,4 +47,4 @@ module _ (S : Type 0) (stands : S → S → ParseState → Type 0) (trusts : Boo
           full = λ r. let above = ltb-false k.height limits.depth (sym roomy ∙ r) in omega (arith, above, count, height);
         })
         (subst AreBytes (sym whole) are) in
-        stopped plain limits bytes f (subst (λ (x : List ℕ). IsStopped plain limits x f) (whole ∙ within) found) answer (subst (λ (x : List ℕ). IsAnswered limits.bytes x f answer) within answered)
+        stopped plain limits bytes f (subst (λ (x : List ℕ). IsStopped plain limits x f) (whole ∙ within) found) outcome (subst (λ (x : List ℕ). IsReportedAs limits.bytes x f outcome) within is_returned)

@@ -17,9 +17,9 @@ use Rattle.theory_verdicts.{specs.SoFar.IsMapSoFar, specs.SoFar.map_bytes, proof
 use Rattle.theory_verdicts.proofs.{Given.pairs-valid, Given.entries-more, Heads.open_or, Judged.zero_item, Valid.in_range_entries}
 use Rattle.theory_verdicts.proofs.PathLevels.{judged_path, judged_key_path}
 use Rattle.cbor_parser.specs.declared.container.Expected.TheVariants.{Item, Key, Value}
-use Rattle.cbor_parser.specs.inner.OpenContainer.{behind_head, cell_of, cells_of, counted}
+use Rattle.cbor_parser.specs.inner.OpenContainer.{bytes_after_head, cell_of, cells_of, counted}
 use Rattle.cbor_parser.specs.inner.OpenContainer.{Cell}
-use Rattle.cbor_parser.{specs.Sink.IsKeyBehind, proofs.GivenParts.cell-is}
+use Rattle.cbor_parser.{specs.Sink.IsKeyAfter, proofs.GivenParts.cell-is}
 
 -- ---- keys
 
@@ -113,17 +113,17 @@ found_of_whole o d ls p found h small apart j =
     (judged_path plain d ps (paths_clean o d ls h small apart) p found
     (subst (λ (x : List ℕ). IsJudged plain (length x) (d - length ps) p found) (sym same) (subst (λ (n : ℕ). IsJudged plain (length (bytes_before ls)) (d - n) p found) (sym (paths_length ls)) j)))
 
-key_path : (l : Level) (es : SpelledEntries) → IsKeyBehind l es → (w : Width) × (left : ℕ) × (path_of l ≡ path.a_key w left es)
+key_path : (l : Level) (es : SpelledEntries) → IsKeyAfter l es → (w : Width) × (left : ℕ) × (path_of l ≡ path.a_key w left es)
 key_path (a_key w left done) es e = (w, left, ap (path.a_key w left) (sym e))
 key_path (some_key done) es e = (Indefinite, 0, ap (path.a_key Indefinite 0) (sym e))
 key_path _ es e = absurd e
 
 -- a key that is the same as an earlier one is the first complaint
-pub repeat_of_whole : (o : KeyOrder) (d : ℕ) (ls : List Level) (l : Level) (es : SpelledEntries) → IsKeyBehind l es → AreLevels d (l ∷ ls) → length (bytes_before (l ∷ ls)) < 2 ^ 63 → AreOpenKeysDifferent (opens o (l ∷ ls))
+pub repeat_of_whole : (o : KeyOrder) (d : ℕ) (ls : List Level) (l : Level) (es : SpelledEntries) → IsKeyAfter l es → AreLevels d (l ∷ ls) → length (bytes_before (l ∷ ls)) < 2 ^ 63 → AreOpenKeysDifferent (opens o (l ∷ ls))
     → (k : Spelling) → IsTaken (d - suc (length ls)) k → IsRepeated (keys_onto [] es) k
     → IsJudged plain 0 d (bytes_before (l ∷ ls) ++ spell k) (Some (complaint (length (bytes_before (l ∷ ls)) + length (spell k)) (length (bytes_before (l ∷ ls))) RepeatedKey))
-repeat_of_whole o d ls l es behind h small apart k i repeated =
-    let (w, left, is) = key_path l es behind in
+repeat_of_whole o d ls l es following h small apart k i repeated =
+    let (w, left, is) = key_path l es following in
     let ps = paths_of ls in
     let low = i.within in
     let same : path.bytes_before (path.a_key w left es ∷ ps) ≡ bytes_before (l ∷ ls) = ap (λ (x : path.Level). path.bytes_before (x ∷ ps)) (sym is) ∙ paths_bytes (l ∷ ls) in
@@ -133,29 +133,29 @@ repeat_of_whole o d ls l es behind h small apart k i repeated =
 
 -- ---- what is expected, by the cells
 
-level_expected : (behind : ℕ) (l : Level) (ls : List path.Level) → ((cell_of behind l).expected ≡ Key → IsKeyExpectedIn (path_of l ∷ ls)) × (IsKeyExpectedIn (path_of l ∷ ls) → (cell_of behind l).expected ≡ Key)
-level_expected behind (a_key w left done) ls = (λ e. tt, λ h. refl)
-level_expected behind (some_key done) ls = (λ e. tt, λ h. refl)
-level_expected behind _ ls = (λ e. absurd (cc e), λ h. absurd h)
+level_expected : (following : ℕ) (l : Level) (ls : List path.Level) → ((cell_of following l).expected ≡ Key → IsKeyExpectedIn (path_of l ∷ ls)) × (IsKeyExpectedIn (path_of l ∷ ls) → (cell_of following l).expected ≡ Key)
+level_expected following (a_key w left done) ls = (λ e. tt, λ h. refl)
+level_expected following (some_key done) ls = (λ e. tt, λ h. refl)
+level_expected following _ ls = (λ e. absurd (cc e), λ h. absurd h)
 
-breaks_level : (behind d : ℕ) (l : Level) (ls : List path.Level) → IsLevel d l → MayBreak (path_of l ∷ ls) → ((cell_of behind l).is_indefinite ≡ true) × ((cell_of behind l).expected ≢ Value)
-breaks_level behind d (some_member done) ls h b = (refl, λ e. cc e)
-breaks_level behind d (some_key done) ls h b = (refl, λ e. cc e)
-breaks_level behind d (a_member Indefinite left done) ls h b = absurd h.0
-breaks_level behind d (a_key Indefinite left done) ls h b = absurd h.0
-breaks_level behind d _ ls h b = absurd b
+breaks_level : (following d : ℕ) (l : Level) (ls : List path.Level) → IsLevel d l → MayBreak (path_of l ∷ ls) → ((cell_of following l).is_indefinite ≡ true) × ((cell_of following l).expected ≢ Value)
+breaks_level following d (some_member done) ls h b = (refl, λ e. cc e)
+breaks_level following d (some_key done) ls h b = (refl, λ e. cc e)
+breaks_level following d (a_member Indefinite left done) ls h b = absurd h.0
+breaks_level following d (a_key Indefinite left done) ls h b = absurd h.0
+breaks_level following d _ ls h b = absurd b
 
 module _ (n : ℕ) (top : Cell) (outer : List Cell) where
   pub path_expected : (ls : List Level) → top ∷ outer ≡ cells_of n ls → (top.expected ≡ Key → IsKeyExpectedIn (paths_of ls)) × (IsKeyExpectedIn (paths_of ls) → top.expected ≡ Key)
   path_expected [] e = let same : top ≡ counted Item 0 0 = cc in (λ expected. absurd (cc (ap (λ (x : Cell). x.expected) (sym same) ∙ expected)), λ h. absurd h)
   path_expected (l ∷ ls) e =
       let there = ap (λ (x : Cell). x.expected) (cell-is n l ls e) in
-      let both = level_expected (behind_head n ls l) l (paths_of ls) in
+      let both = level_expected (bytes_after_head n ls l) l (paths_of ls) in
       (λ expected. both.0 (sym there ∙ expected), λ h. there ∙ both.1 h)
 
   pub breaks_path : (d : ℕ) (ls : List Level) → AreLevels d ls → top ∷ outer ≡ cells_of n ls → MayBreak (paths_of ls) → (top.is_indefinite ≡ true) × (top.expected ≢ Value)
   breaks_path d [] h e b = absurd b
   breaks_path d (l ∷ ls) h e b =
       let same = cell-is n l ls e in
-      let found = breaks_level (behind_head n ls l) (d - suc (length ls)) l (paths_of ls) h.1 b in
+      let found = breaks_level (bytes_after_head n ls l) (d - suc (length ls)) l (paths_of ls) h.1 b in
       (ap (λ (x : Cell). x.is_indefinite) same ∙ found.0, λ x. found.1 (ap (λ (y : Cell). y.expected) (sym same) ∙ x))

@@ -6,7 +6,7 @@ use Rattle.cbor_head.specs.declared.reason.{Reason.TheVariants.RepeatedKey, Refu
 use Rattle.theory_values.proofs.ReadLaws.{length_spell}
 use Rattle.theory_automaton.proofs.Members.{members, members-count, members-bytes}
 use Rattle.theory_verdicts.specs.Levels.{IsTaken, AreTaken, ArePairsTaken, bytes_before}
-use Rattle.cbor_parser.specs.inner.{OpenContainer.opener, Repeated.IsKeyReported, Skip.StandAtStart}
+use Rattle.cbor_parser.specs.inner.{OpenContainer.opener, Repeated.IsKeyReported, Skip.HasItemsAtStart}
 use Rattle.cbor_parser.proofs.{Repeats.pairs_taken, Repeats.opened, ReportedMaps.reported_verdict}
 
 -- ---- pairs, as items
@@ -25,7 +25,7 @@ items_short (entry k v es) = omega (arith, items_short es, length_spell k, lengt
 
 -- ---- the input, from where the content of the map begins
 
-module _ (limits : Bounds) (input : List ℕ) (behind pair : ℕ) (h : IsKeyReported limits input behind pair) where
+module _ (limits : Bounds) (input : List ℕ) (following pair : ℕ) (h : IsKeyReported limits input following pair) where
   abbrev head_before : List ℕ
   head_before = bytes_before h.outer ++ opener h.level
 
@@ -35,40 +35,40 @@ module _ (limits : Bounds) (input : List ℕ) (behind pair : ℕ) (h : IsKeyRepo
   split_there : input ≡ head_before ++ content
   split_there =
       h.bytes
-      ∙ ap (λ (x : List ℕ). (bytes_before h.outer ++ x) ++ (spell h.key ++ h.more)) (opened h.level h.es h.is_behind)
+      ∙ ap (λ (x : List ℕ). (bytes_before h.outer ++ x) ++ (spell h.key ++ h.more)) (opened h.level h.es h.is_after)
       ∙ ap (λ (x : List ℕ). x ++ (spell h.key ++ h.more)) (sym (append_assoc (bytes_before h.outer) (opener h.level) (spell_entries h.es)))
       ∙ append_assoc head_before (spell_entries h.es) (spell h.key ++ h.more)
 
-  content_there : take (length input - (length input - behind)) (drop (length input - behind) input) ≡ content
+  content_there : take (length input - (length input - following)) (drop (length input - following) input) ≡ content
   content_there =
       let size = ap length split_there ∙ length-append head_before content in
       let begins = h.begins in
-      let place : length input - behind ≡ length head_before + 0 = omega (arith, begins, size) in
-      let rest : drop (length input - behind) input ≡ content = ap₂ (λ (n : ℕ) (x : List ℕ). drop n x) place split_there ∙ drop-append-add head_before content 0 in
+      let place : length input - following ≡ length head_before + 0 = omega (arith, begins, size) in
+      let rest : drop (length input - following) input ≡ content = ap₂ (λ (n : ℕ) (x : List ℕ). drop n x) place split_there ∙ drop-append-add head_before content 0 in
       take_all _ _ (omega (arith, ap length rest, begins, size)) ∙ rest
 
   pub pairs_fit : 2 * pair < 2 ^ 64
   pairs_fit =
       omega (arith, h.small, h.count, items_short h.es, ap length split_there, length-append head_before content, length-append (spell_entries h.es) (spell h.key ++ h.more))
 
-  pub content_short : length (take (length input - (length input - behind)) (drop (length input - behind) input)) ≤ 2 ^ 62
+  pub content_short : length (take (length input - (length input - following)) (drop (length input - following) input)) ≤ 2 ^ 62
   content_short =
       omega (arith, h.small, ap length content_there, ap length split_there, length-append head_before content)
 
-  pub content_shorter : length (take (length input - (length input - behind)) (drop (length input - behind) input)) ≤ length input
+  pub content_shorter : length (take (length input - (length input - following)) (drop (length input - following) input)) ≤ length input
   content_shorter = omega (arith, ap length content_there, ap length split_there, length-append head_before content)
 
-  pub pairs_at_start : (d : ℕ) → d ≡ limits.depth → StandAtStart d (take (length input - (length input - behind)) (drop (length input - behind) input)) (2 * pair) (spell h.key ++ h.more)
+  pub pairs_at_start : (d : ℕ) → d ≡ limits.depth → HasItemsAtStart d (take (length input - (length input - following)) (drop (length input - following) input)) (2 * pair) (spell h.key ++ h.more)
   pairs_at_start d e =
       record {
         items = members h.es;
-        taken = items_taken (limits.depth - suc (length h.outer)) (d - 1) h.es (omega (arith, e)) (pairs_taken (limits.depth - suc (length h.outer)) h.level h.es h.is_behind h.levels.1);
+        taken = items_taken (limits.depth - suc (length h.outer)) (d - 1) h.es (omega (arith, e)) (pairs_taken (limits.depth - suc (length h.outer)) h.level h.es h.is_after h.levels.1);
         space = omega (arith, e, h.levels.0);
         count_is = omega (arith, members-count h.es, h.count);
         bytes_are = content_there ∙ ap (λ (x : List ℕ). x ++ (spell h.key ++ h.more)) (sym (members-bytes h.es));
       }
 
-  pub key_at_start : (d : ℕ) (found : List ℕ) → d ≡ limits.depth → found ≡ spell h.key ++ h.more → StandAtStart d found 1 h.more
+  pub key_at_start : (d : ℕ) (found : List ℕ) → d ≡ limits.depth → found ≡ spell h.key ++ h.more → HasItemsAtStart d found 1 h.more
   key_at_start d found e is =
       record {
         items = a_spelling h.key no_spellings;
@@ -93,4 +93,4 @@ module _ (limits : Bounds) (input : List ℕ) (behind pair : ℕ) (h : IsKeyRepo
         let part = length-append (spell h.key) h.more in
         let at : length input - length key ≡ length before = omega (arith, ap length key_is, size, all) in
         let end : length input - length rest ≡ length before + length (spell h.key) = omega (arith, ap length rest_is, size, all, part) in
-        subst (λ (x : Refusal). IsVerdict limits plain bytes (refused x)) (sym (is ∙ ap₂ (refusal RepeatedKey) at end)) (reported_verdict limits input behind pair bytes h within)
+        subst (λ (x : Refusal). IsVerdict limits plain bytes (refused x)) (sym (is ∙ ap₂ (refusal RepeatedKey) at end)) (reported_verdict limits input following pair bytes h within)

@@ -7,7 +7,7 @@ use Rattle.theory_values.proofs.{Keys.same_exactly, Sound.IsSound, Sound.sound}
 use Rattle.cbor_builder.specs.Built.{HasKey}
 use Rattle.theory_verdicts.specs.Levels.{IsTaken, ArePairsTaken, Level, a_key, some_key, IsLevel, AreLevels, level_bytes, bytes_before}
 use Rattle.theory_verdicts.{specs.Frame.keys_onto, proofs.Valid.in_range_of, proofs.Valid.valid_of}
-use Rattle.cbor_parser.specs.{Sink.IsKeyBehind, inner.OpenContainer.opener}
+use Rattle.cbor_parser.specs.{Sink.IsKeyAfter, inner.OpenContainer.opener}
 
 -- ---- by its canonical bytes
 
@@ -27,20 +27,20 @@ repeated_in o d (entry l v es) ks k h short s x =
       | inr y ↦ more (inr (inr y))
     ]
 
-pub opened : (l : Level) (es : SpelledEntries) → IsKeyBehind l es → level_bytes l ≡ opener l ++ spell_entries es
+pub opened : (l : Level) (es : SpelledEntries) → IsKeyAfter l es → level_bytes l ≡ opener l ++ spell_entries es
 opened (a_key w left done) es e = ap (λ (x : SpelledEntries). head majors.Map w (entries_count done + suc left) ++ spell_entries x) (sym e)
 opened (some_key done) es e = ap (λ (x : SpelledEntries). opener (some_key done) ++ spell_entries x) (sym e)
 opened _ es e = absurd e
 
-pub pairs_taken : (d : ℕ) (l : Level) (es : SpelledEntries) → IsKeyBehind l es → IsLevel d l → ArePairsTaken d es
+pub pairs_taken : (d : ℕ) (l : Level) (es : SpelledEntries) → IsKeyAfter l es → IsLevel d l → ArePairsTaken d es
 pairs_taken d (a_key w left done) es e h = subst (ArePairsTaken d) (sym e) h.1
 pairs_taken d (some_key done) es e h = subst (ArePairsTaken d) (sym e) h
 pairs_taken d _ es e h = absurd e
 
 -- where an earlier key of the map has its canonical bytes, it is the same
-pub repeated_by_bytes : (o : KeyOrder) (d e : ℕ) (ls : List Level) (l : Level) (es : SpelledEntries) → IsKeyBehind l es → AreLevels d (l ∷ ls) → length (bytes_before (l ∷ ls)) < 2 ^ 63
+pub repeated_by_bytes : (o : KeyOrder) (d e : ℕ) (ls : List Level) (l : Level) (es : SpelledEntries) → IsKeyAfter l es → AreLevels d (l ∷ ls) → length (bytes_before (l ∷ ls)) < 2 ^ 63
     → (k : Spelling) → IsTaken e k → length (spell k) < 2 ^ 63 → HasKey (canonical_entries o (entries_of es)) (canonical o (value_of k)) → IsRepeated (keys_onto [] es) k
-repeated_by_bytes o d e ls l es behind levels short k i key_short held =
+repeated_by_bytes o d e ls l es following levels short k i key_short held =
     let left = d - suc (length ls) in
     let sound_k = sound (value_of k) (in_range_of k i.spelled (omega (arith, key_short))) (valid_of k 0 (i.clean 0)) in
-    repeated_in o left es [] k (pairs_taken left l es behind levels.1) (omega (arith, short, ap length (opened l es behind), length-append (bytes_before ls) (level_bytes l), length-append (opener l) (spell_entries es))) sound_k (inl held)
+    repeated_in o left es [] k (pairs_taken left l es following levels.1) (omega (arith, short, ap length (opened l es following), length-append (bytes_before ls) (level_bytes l), length-append (opener l) (spell_entries es))) sound_k (inl held)

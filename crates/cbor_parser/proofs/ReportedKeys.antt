@@ -7,7 +7,7 @@ use Rattle.cbor_head.specs.declared.{order.KeyOrder.KeyOrder, width.Width.Width,
 use Rattle.cbor_builder.specs.Built.{HasKey, keys_so_far, IsFirstRepeat, AreAllDifferent}
 use Rattle.theory_verdicts.specs.Levels.{IsTaken, ArePairsTaken, Level, a_key, a_value, some_key, some_value, level_bytes, IsLevel}
 use Rattle.theory_verdicts.{specs.Given.level_open, proofs.Heads.open_or}
-use Rattle.cbor_parser.specs.{Sink.IsKeyBehind, inner.OpenContainer.opener}
+use Rattle.cbor_parser.specs.{Sink.IsKeyAfter, inner.OpenContainer.opener}
 
 -- ---- canonical keys
 
@@ -93,7 +93,7 @@ pub record IsKeyIn (o : KeyOrder) (d : ℕ) (opening bytes : List ℕ) (pair : �
   pub level : Level
   pub es : SpelledEntries
   pub key : Spelling
-  pub is_behind : IsKeyBehind level es
+  pub is_after : IsKeyAfter level es
   pub count : entries_count es ≡ pair
   pub begins : opener level ≡ opening
   pub holds : IsLevel d level
@@ -104,22 +104,22 @@ pub record IsKeyIn (o : KeyOrder) (d : ℕ) (opening bytes : List ℕ) (pair : �
   pub bytes_are : bytes ≡ level_bytes level ++ (spell key ++ more)
 
 -- a map that begins so, with a key expected after these pairs
-record IsExpectedBehind (o : KeyOrder) (d : ℕ) (opening : List ℕ) (es : SpelledEntries) : Type 0 where
+record IsExpectedAfter (o : KeyOrder) (d : ℕ) (opening : List ℕ) (es : SpelledEntries) : Type 0 where
   level : Level
-  is_behind : IsKeyBehind level es
+  is_after : IsKeyAfter level es
   begins : opener level ≡ opening
   holds : IsLevel d level
   keys_are : keys_so_far (level_open o level) ≡ keys o es
   bytes_are : level_bytes level ≡ opening ++ spell_entries es
 
-expected_in : (o : KeyOrder) (d : ℕ) (w : Width) (n : ℕ) → HoldsOrIndefinite w n → (es : SpelledEntries) → entries_count es < n → ArePairsTaken d es → IsExpectedBehind o d (head majors.Map w n) es
-expected_in o d Indefinite n h es l taken = record { level = some_key es; is_behind = refl; begins = refl; holds = taken; keys_are = refl; bytes_are = refl }
+expected_in : (o : KeyOrder) (d : ℕ) (w : Width) (n : ℕ) → HoldsOrIndefinite w n → (es : SpelledEntries) → entries_count es < n → ArePairsTaken d es → IsExpectedAfter o d (head majors.Map w n) es
+expected_in o d Indefinite n h es l taken = record { level = some_key es; is_after = refl; begins = refl; holds = taken; keys_are = refl; bytes_are = refl }
 expected_in o d w n h es l taken =
     let left = n - suc (entries_count es) in
     let count : entries_count es + suc left ≡ n = omega (arith, l) in
     record {
       level = a_key w left es;
-      is_behind = refl;
+      is_after = refl;
       begins = ap (head majors.Map w) count;
       holds = (subst (Holds w) (sym count) h, taken);
       keys_are = refl;
@@ -128,16 +128,16 @@ expected_in o d w n h es l taken =
 
 module _ (o : KeyOrder) (d : ℕ) (w : Width) (n : ℕ) (holds : HoldsOrIndefinite w n) where
   -- after these pairs
-  key_behind : (before : SpelledEntries) (key : Spelling) (others : List (List ℕ)) (more bytes : List ℕ) → entries_count before < n → ArePairsTaken d before → IsTaken d key
+  key_after : (before : SpelledEntries) (key : Spelling) (others : List (List ℕ)) (more bytes : List ℕ) → entries_count before < n → ArePairsTaken d before → IsTaken d key
       → IsFirstRepeat (keys o before ++ canonical o (value_of key) ∷ others) (entries_count before) → bytes ≡ (head majors.Map w n ++ spell_entries before) ++ (spell key ++ more)
       → IsKeyIn o d (head majors.Map w n) bytes (entries_count before)
-  key_behind before key others more bytes l taken i first e =
+  key_after before key others more bytes l taken i first e =
       let expected = expected_in o d w n holds before l taken in
       record {
         level = expected.level;
         es = before;
         key = key;
-        is_behind = expected.is_behind;
+        is_after = expected.is_after;
         count = refl;
         begins = expected.begins;
         holds = expected.holds;
@@ -157,14 +157,14 @@ module _ (o : KeyOrder) (d : ℕ) (w : Width) (n : ℕ) (holds : HoldsOrIndefini
       let count = r.count in
       let ck = canonical o (value_of r.key) in
       let all : keys o es ++ others ≡ keys o r.before ++ ck ∷ (keys o r.after ++ others) = ap (λ (ks : List (List ℕ)). ks ++ others) r.keys_are ∙ append_assoc (keys o r.before) (ck ∷ keys o r.after) others in
-      let behind = spell r.value ++ spell_entries r.after in
-      let bytes : (h ++ spell_entries es) ++ tail ≡ (h ++ spell_entries r.before) ++ (spell r.key ++ (behind ++ tail)) =
+      let following = spell r.value ++ spell_entries r.after in
+      let bytes : (h ++ spell_entries es) ++ tail ≡ (h ++ spell_entries r.before) ++ (spell r.key ++ (following ++ tail)) =
       ap (λ (x : List ℕ). (h ++ x) ++ tail) r.bytes_are
-      ∙ ap (λ (x : List ℕ). x ++ tail) (sym (append_assoc h (spell_entries r.before) (spell r.key ++ behind)))
-      ∙ append_assoc (h ++ spell_entries r.before) (spell r.key ++ behind) tail
-      ∙ ap (λ (x : List ℕ). (h ++ spell_entries r.before) ++ x) (append_assoc (spell r.key) behind tail) in
+      ∙ ap (λ (x : List ℕ). x ++ tail) (sym (append_assoc h (spell_entries r.before) (spell r.key ++ following)))
+      ∙ append_assoc (h ++ spell_entries r.before) (spell r.key ++ following) tail
+      ∙ ap (λ (x : List ℕ). (h ++ spell_entries r.before) ++ x) (append_assoc (spell r.key) following tail) in
       subst (IsKeyIn o d h ((h ++ spell_entries es) ++ tail)) count
-      (key_behind r.before r.key (keys o r.after ++ others) (behind ++ tail) _ (omega (arith, r.total, count, l)) r.before_taken r.key_taken
+      (key_after r.before r.key (keys o r.after ++ others) (following ++ tail) _ (omega (arith, r.total, count, l)) r.before_taken r.key_taken
       (subst (λ (m : ℕ). IsFirstRepeat (keys o r.before ++ ck ∷ (keys o r.after ++ others)) m) (sym count) (subst (λ (ks : List (List ℕ)). IsFirstRepeat ks pair) all first)) bytes)
 
   -- of these pairs alone
@@ -181,7 +181,7 @@ module _ (o : KeyOrder) (d : ℕ) (w : Width) (n : ℕ) (holds : HoldsOrIndefini
         let h = head majors.Map w n in
         let is : entries_count es ≡ pair = omega (arith, high, first.0.2, length-append (keys o es) (canonical o (value_of k) ∷ []), keys_count o es) in
         subst (IsKeyIn o d h ((h ++ spell_entries es) ++ spell k)) is
-        (key_behind es k [] [] _ l taken i (subst (IsFirstRepeat (keys o es ++ canonical o (value_of k) ∷ [])) (sym is) first) (ap (λ (x : List ℕ). (h ++ spell_entries es) ++ x) (sym (append-nil (spell k)))))
+        (key_after es k [] [] _ l taken i (subst (IsFirstRepeat (keys o es ++ canonical o (value_of k) ∷ [])) (sym is) first) (ap (λ (x : List ℕ). (h ++ spell_entries es) ++ x) (sym (append-nil (spell k)))))
   ]
 
 no_first : (pair : ℕ) → IsFirstRepeat [] pair → ⊥

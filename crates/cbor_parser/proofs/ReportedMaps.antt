@@ -47,7 +47,7 @@ module _ (limits : Bounds) (input : List ℕ) (small : length input ≤ 2 ^ 62) 
         outer = outer;
         levels = (space, k.holds, levels);
         es = k.es;
-        is_behind = k.is_behind;
+        is_after = k.is_after;
         count = k.count;
         key = k.key;
         taken = k.taken;
@@ -119,7 +119,7 @@ module _ (limits : Bounds) (input : List ℕ) (small : length input ≤ 2 ^ 62) 
 
 -- ---- the verdict
 
-module _ (limits : Bounds) (input : List ℕ) (behind pair : ℕ) (h : IsKeyReported limits input behind pair) where
+module _ (limits : Bounds) (input : List ℕ) (following pair : ℕ) (h : IsKeyReported limits input following pair) where
   abbrev before : List ℕ
   before = bytes_before (h.level ∷ h.outer)
 
@@ -128,11 +128,11 @@ module _ (limits : Bounds) (input : List ℕ) (behind pair : ℕ) (h : IsKeyRepo
       let small = h.small in
       let size = ap length h.bytes in
       let parts = length-append before (spell h.key ++ h.more) in
-      let behind_it = length-append (spell h.key) h.more in
+      let item_after_key = length-append (spell h.key) h.more in
       let early : length before < 2 ^ 63 = omega (arith, small, size, parts) in
-      let key_short : length (spell h.key) < 2 ^ 63 = omega (arith, small, size, parts, behind_it) in
-      let repeated = repeated_by_bytes h.order limits.depth (limits.depth - suc (length h.outer)) h.outer h.level h.es h.is_behind h.levels early h.key h.taken key_short h.held in
-      repeat_of_whole h.order limits.depth h.outer h.level h.es h.is_behind h.levels early h.apart h.key h.taken repeated
+      let key_short : length (spell h.key) < 2 ^ 63 = omega (arith, small, size, parts, item_after_key) in
+      let repeated = repeated_by_bytes h.order limits.depth (limits.depth - suc (length h.outer)) h.outer h.level h.es h.is_after h.levels early h.key h.taken key_short h.held in
+      repeat_of_whole h.order limits.depth h.outer h.level h.es h.is_after h.levels early h.apart h.key h.taken repeated
 
   -- then no item without complaint is at the start
   pub never_known : BeginsTaken limits.depth input → ⊥
@@ -141,16 +141,16 @@ module _ (limits : Bounds) (input : List ℕ) (behind pair : ℕ) (h : IsKeyRepo
       let j = subst (λ (d : ℕ). IsJudged plain 0 d (before ++ spell h.key) (Some (complaint (length before + length (spell h.key)) (length before) RepeatedKey))) same reported_judged in
       clean-prefix limits.depth [] j.item item (before ++ spell h.key) j.rest h.more more tt j.is taken (append_assoc before (spell h.key) h.more ∙ sym h.bytes ∙ prefix) _ j.finding.holds j.finding.ends
 
-pub reported_verdict : (limits : Bounds) (input : List ℕ) (behind pair : ℕ) (bytes : List ℕ) → (h : IsKeyReported limits input behind pair) → input ≡ take limits.bytes bytes
+pub reported_verdict : (limits : Bounds) (input : List ℕ) (following pair : ℕ) (bytes : List ℕ) → (h : IsKeyReported limits input following pair) → input ≡ take limits.bytes bytes
     → IsVerdict limits plain bytes (refused (refusal RepeatedKey (length (bytes_before (h.level ∷ h.outer))) (length (bytes_before (h.level ∷ h.outer)) + length (spell h.key))))
-reported_verdict limits input behind pair bytes h within =
+reported_verdict limits input following pair bytes h within =
     let before = bytes_before (h.level ∷ h.outer) in
     complaint_stops plain limits bytes _ (record {
       p = before ++ spell h.key;
       rest = h.more;
       splits = sym within ∙ h.bytes ∙ sym (append_assoc before (spell h.key) h.more);
       complaint = complaint (length before + length (spell h.key)) (length before) RepeatedKey;
-      judged = reported_judged limits input behind pair h;
+      judged = reported_judged limits input following pair h;
       keeps = h.keeps;
       is = refl;
     })

@@ -15,10 +15,10 @@ abbrev pub ByPlace : List ℕ → Type 0
 ByPlace xs = (i : ℕ) → get_or xs i 0 < 256
 
 -- what follows a head
-pub rest-is : (first : ℕ) (behind hs rest : List ℕ) → first ∷ behind ≡ hs ++ rest → length rest ≤ length behind → drop (1 + (length behind - length rest)) (first ∷ behind) ≡ rest
-rest-is first behind hs rest e l =
-    let n : 1 + (length behind - length rest) ≡ length hs = omega (arith, ap length e, length-append hs rest, l) in
-    ap (λ k. drop k (first ∷ behind)) n ∙ ap (drop (length hs)) e ∙ drop-append_seam hs rest
+pub rest-is : (first : ℕ) (following hs rest : List ℕ) → first ∷ following ≡ hs ++ rest → length rest ≤ length following → drop (1 + (length following - length rest)) (first ∷ following) ≡ rest
+rest-is first following hs rest e l =
+    let n : 1 + (length following - length rest) ≡ length hs = omega (arith, ap length e, length-append hs rest, l) in
+    ap (λ k. drop k (first ∷ following)) n ∙ ap (drop (length hs)) e ∙ drop-append_seam hs rest
 
 -- ---- the shortest width
 
@@ -35,30 +35,30 @@ eight-is : (n : ℕ) → 4294967296 ≤ n → shortest n ≡ Eight
 eight-is n l = grind (arith, nat_tests)
 
 -- the argument is the number of the next k bytes
-argument-is : (w : Width) (k low : ℕ) (behind : List ℕ) → ((first n : ℕ) → with_argument w first n ≡ (first + low) ∷ big_bytes k n) → shortest (big_number k behind) ≡ w → k ≤ length behind → ByPlace behind → big_number k behind < 2 ^ 64
-    → IsShortest low behind (big_number k behind) (drop k behind)
-argument-is w k low behind made is l h range =
-    let n = big_number k behind in
+argument-is : (w : Width) (k low : ℕ) (following : List ℕ) → ((first n : ℕ) → with_argument w first n ≡ (first + low) ∷ big_bytes k n) → shortest (big_number k following) ≡ w → k ≤ length following → ByPlace following → big_number k following < 2 ^ 64
+    → IsShortest low following (big_number k following) (drop k following)
+argument-is w k low following made is l h range =
+    let n = big_number k following in
     record {
-      spelled = λ first. ap (λ (x : List ℕ). (first + low) ∷ x) (sym (prefix_number k behind l h)) ∙ ap (λ (x : List ℕ). x ++ drop k behind) (sym (made first n)) ∙ ap (λ (v : Width). with_argument v first n ++ drop k behind) (sym is);
+      spelled = λ first. ap (λ (x : List ℕ). (first + low) ∷ x) (sym (prefix_number k following l h)) ∙ ap (λ (x : List ℕ). x ++ drop k following) (sym (made first n)) ∙ ap (λ (v : Width). with_argument v first n ++ drop k following) (sym is);
       range = range;
     }
 
-pub direct : (low : ℕ) (behind : List ℕ) → low < 24 → IsShortest low behind low behind
-direct low behind h = record { spelled = λ first. ap (λ (v : Width). with_argument v first low ++ behind) (sym (direct-is low h)); range = omega arith }
+pub direct : (low : ℕ) (following : List ℕ) → low < 24 → IsShortest low following low following
+direct low following h = record { spelled = λ first. ap (λ (v : Width). with_argument v first low ++ following) (sym (direct-is low h)); range = omega arith }
 
-module _ (behind : List ℕ) (h : ByPlace behind) where
-  pub of-one : 1 ≤ length behind → 24 ≤ big_number 1 behind → IsShortest 24 behind (big_number 1 behind) (drop 1 behind)
-  of-one l g = argument-is One 1 24 behind (λ first n. refl) (one-is (big_number 1 behind) g (omega (arith, h 0))) l h (omega (arith, h 0))
+module _ (following : List ℕ) (h : ByPlace following) where
+  pub of-one : 1 ≤ length following → 24 ≤ big_number 1 following → IsShortest 24 following (big_number 1 following) (drop 1 following)
+  of-one l g = argument-is One 1 24 following (λ first n. refl) (one-is (big_number 1 following) g (omega (arith, h 0))) l h (omega (arith, h 0))
 
-  pub of-two : 2 ≤ length behind → 256 ≤ big_number 2 behind → IsShortest 25 behind (big_number 2 behind) (drop 2 behind)
-  of-two l g = argument-is Two 2 25 behind (λ first n. refl) (two-is (big_number 2 behind) g (omega (arith, h 0, h 1))) l h (omega (arith, h 0, h 1))
+  pub of-two : 2 ≤ length following → 256 ≤ big_number 2 following → IsShortest 25 following (big_number 2 following) (drop 2 following)
+  of-two l g = argument-is Two 2 25 following (λ first n. refl) (two-is (big_number 2 following) g (omega (arith, h 0, h 1))) l h (omega (arith, h 0, h 1))
 
-  pub of-four : 4 ≤ length behind → 65536 ≤ big_number 4 behind → IsShortest 26 behind (big_number 4 behind) (drop 4 behind)
-  of-four l g = argument-is Four 4 26 behind (λ first n. refl) (four-is (big_number 4 behind) g (omega (arith, h 0, h 1, h 2, h 3))) l h (omega (arith, h 0, h 1, h 2, h 3))
+  pub of-four : 4 ≤ length following → 65536 ≤ big_number 4 following → IsShortest 26 following (big_number 4 following) (drop 4 following)
+  of-four l g = argument-is Four 4 26 following (λ first n. refl) (four-is (big_number 4 following) g (omega (arith, h 0, h 1, h 2, h 3))) l h (omega (arith, h 0, h 1, h 2, h 3))
 
-  pub of-eight : 8 ≤ length behind → 4294967296 ≤ big_number 8 behind → IsShortest 27 behind (big_number 8 behind) (drop 8 behind)
-  of-eight l g = argument-is Eight 8 27 behind (λ first n. refl) (eight-is (big_number 8 behind) g) l h (omega (arith, h 0, h 1, h 2, h 3, h 4, h 5, h 6, h 7))
+  pub of-eight : 8 ≤ length following → 4294967296 ≤ big_number 8 following → IsShortest 27 following (big_number 8 following) (drop 8 following)
+  of-eight l g = argument-is Eight 8 27 following (λ first n. refl) (eight-is (big_number 8 following) g) l h (omega (arith, h 0, h 1, h 2, h 3, h 4, h 5, h 6, h 7))
 
 -- the eight bytes as one number
 word-least : (xs : List ℕ) → ByPlace xs → 8 ≤ length xs
@@ -84,77 +84,77 @@ pub record IsSize (low size : ℕ) : Type 0 where
   pub four : low ≡ 26 → size ≡ 4
   pub eight : low ≡ 27 → size ≡ 8
 
-pub shortest-head : (low least size : ℕ) (behind chunk : List ℕ) → chunk ≡ take 8 behind → 8 ≤ length behind → ByPlace behind → IsLeast low least → IsSize low size → 24 ≤ low → low ≤ 27
-    → least ≤ from_be_bytes w64 chunk → IsShortestHead low behind (1 + size)
-shortest-head low least size behind chunk is l h least_is size_is low_is high_is word = by-low (elim (cases_lt low 25) [
+pub shortest-head : (low least size : ℕ) (following chunk : List ℕ) → chunk ≡ take 8 following → 8 ≤ length following → ByPlace following → IsLeast low least → IsSize low size → 24 ≤ low → low ≤ 27
+    → least ≤ from_be_bytes w64 chunk → IsShortestHead low following (1 + size)
+shortest-head low least size following chunk is l h least_is size_is low_is high_is word = by-low (elim (cases_lt low 25) [
   | inl p ↦ inl (omega (arith, p, low_is))
   | inr p ↦ elim (cases_lt low 26) [ inl q ↦ inr (inl (omega (arith, p, q))) | inr q ↦ elim (cases_lt low 27) [ inl r ↦ inr (inr (inl (omega (arith, q, r)))) | inr r ↦ inr (inr (inr (omega (arith, r, high_is)))) ] ]
 ])
   where
-    made : (low size : ℕ) → size ≤ 8 → IsShortest low behind (big_number size behind) (drop size behind) → IsShortestHead low behind (1 + size)
+    made : (low size : ℕ) → size ≤ 8 → IsShortest low following (big_number size following) (drop size following) → IsShortestHead low following (1 + size)
     made low size small s =
         let k : 1 + size - 1 ≡ size = omega arith in
-        record { some = omega arith; inside = omega (arith, small, l); number = big_number size behind; shortest = subst (λ j. IsShortest low behind (big_number size behind) (drop j behind)) (sym k) s }
+        record { some = omega arith; inside = omega (arith, small, l); number = big_number size following; shortest = subst (λ j. IsShortest low following (big_number size following) (drop j following)) (sym k) s }
 
-    word_is : least ≤ from_be_bytes w64 (take 8 behind)
+    word_is : least ≤ from_be_bytes w64 (take 8 following)
     word_is = subst (λ (x : List ℕ). least ≤ from_be_bytes w64 x) is word
 
-    by-low : (low ≡ 24) ⊎ (low ≡ 25) ⊎ (low ≡ 26) ⊎ (low ≡ 27) → IsShortestHead low behind (1 + size)
+    by-low : (low ≡ 24) ⊎ (low ≡ 25) ⊎ (low ≡ 26) ⊎ (low ≡ 27) → IsShortestHead low following (1 + size)
     by-low (inl e) =
-        subst (λ k. IsShortestHead k behind (1 + size)) (sym e) (subst (λ j. IsShortestHead 24 behind (1 + j)) (sym (size_is.one e)) (made 24 1 (omega arith) (of-one behind h (omega (arith, l)) ((word-least behind h l).0 (omega (arith, word_is, least_is.one e))))))
+        subst (λ k. IsShortestHead k following (1 + size)) (sym e) (subst (λ j. IsShortestHead 24 following (1 + j)) (sym (size_is.one e)) (made 24 1 (omega arith) (of-one following h (omega (arith, l)) ((word-least following h l).0 (omega (arith, word_is, least_is.one e))))))
     by-low (inr (inl e)) =
-        subst (λ k. IsShortestHead k behind (1 + size)) (sym e) (subst (λ j. IsShortestHead 25 behind (1 + j)) (sym (size_is.two e)) (made 25 2 (omega arith) (of-two behind h (omega (arith, l)) ((word-least behind h l).1 (omega (arith, word_is, least_is.two e))))))
+        subst (λ k. IsShortestHead k following (1 + size)) (sym e) (subst (λ j. IsShortestHead 25 following (1 + j)) (sym (size_is.two e)) (made 25 2 (omega arith) (of-two following h (omega (arith, l)) ((word-least following h l).1 (omega (arith, word_is, least_is.two e))))))
     by-low (inr (inr (inl e))) =
-        subst (λ k. IsShortestHead k behind (1 + size)) (sym e) (subst (λ j. IsShortestHead 26 behind (1 + j)) (sym (size_is.four e)) (made 26 4 (omega arith) (of-four behind h (omega (arith, l)) ((word-least behind h l).2 (omega (arith, word_is, least_is.four e))))))
+        subst (λ k. IsShortestHead k following (1 + size)) (sym e) (subst (λ j. IsShortestHead 26 following (1 + j)) (sym (size_is.four e)) (made 26 4 (omega arith) (of-four following h (omega (arith, l)) ((word-least following h l).2 (omega (arith, word_is, least_is.four e))))))
     by-low (inr (inr (inr e))) =
-        subst (λ k. IsShortestHead k behind (1 + size)) (sym e) (subst (λ j. IsShortestHead 27 behind (1 + j)) (sym (size_is.eight e)) (made 27 8 (omega arith) (of-eight behind h (omega (arith, l)) ((word-least behind h l).3 (omega (arith, word_is, least_is.eight e))))))
+        subst (λ k. IsShortestHead k following (1 + size)) (sym e) (subst (λ j. IsShortestHead 27 following (1 + j)) (sym (size_is.eight e)) (made 27 8 (omega arith) (of-eight following h (omega (arith, l)) ((word-least following h l).3 (omega (arith, word_is, least_is.eight e))))))
 
 -- ---- items without members
 
 -- the bytes after the head
 module _ (o : KeyOrder) (d : ℕ) where
-  pub an-unsigned : (low : ℕ) (behind rest : List ℕ) (n : ℕ) → IsShortest low behind n rest → IsItemThen o d (low ∷ behind) rest
-  an-unsigned low behind rest n s = record {
+  pub an-unsigned : (low : ℕ) (following rest : List ℕ) (n : ℕ) → IsShortest low following n rest → IsItemThen o d (low ∷ following) rest
+  an-unsigned low following rest n s = record {
     item = unsigned (shortest n) n;
     fine = record { spelled = Holds-shortest n s.range; within = omega arith; clean = λ at c x. x.1 refl; keyless = λ at c x. cc x.0 };
-    bytes = let e : low ≡ 0 + low = omega arith in ap (λ (j : ℕ). j ∷ behind) e ∙ s.spelled 0;
+    bytes = let e : low ≡ 0 + low = omega arith in ap (λ (j : ℕ). j ∷ following) e ∙ s.spelled 0;
   }
 
-  pub a-negative : (low : ℕ) (behind rest : List ℕ) (n : ℕ) → IsShortest low behind n rest → IsItemThen o d ((32 + low) ∷ behind) rest
-  a-negative low behind rest n s = record {
+  pub a-negative : (low : ℕ) (following rest : List ℕ) (n : ℕ) → IsShortest low following n rest → IsItemThen o d ((32 + low) ∷ following) rest
+  a-negative low following rest n s = record {
     item = negative (shortest n) n;
     fine = record { spelled = Holds-shortest n s.range; within = omega arith; clean = λ at c x. x.1 refl; keyless = λ at c x. cc x.0 };
     bytes = s.spelled 32;
   }
 
-  pub a-simple : (low : ℕ) (behind rest : List ℕ) (n : ℕ) → IsShortest low behind n rest → IsSimple n → IsItemThen o d ((224 + low) ∷ behind) rest
-  a-simple low behind rest n s i = record { item = simple n; fine = record { spelled = i; within = omega arith; clean = λ at c x. x; keyless = λ at c x. x }; bytes = s.spelled 224 }
+  pub a-simple : (low : ℕ) (following rest : List ℕ) (n : ℕ) → IsShortest low following n rest → IsSimple n → IsItemThen o d ((224 + low) ∷ following) rest
+  a-simple low following rest n s i = record { item = simple n; fine = record { spelled = i; within = omega arith; clean = λ at c x. x; keyless = λ at c x. x }; bytes = s.spelled 224 }
 
-  pub some-bytes : (low : ℕ) (behind p rest : List ℕ) (n : ℕ) → IsShortest low behind n (p ++ rest) → n ≡ length p → AreBytes p → IsItemThen o d ((64 + low) ∷ behind) rest
-  some-bytes low behind p rest n s e b =
+  pub some-bytes : (low : ℕ) (following p rest : List ℕ) (n : ℕ) → IsShortest low following n (p ++ rest) → n ≡ length p → AreBytes p → IsItemThen o d ((64 + low) ∷ following) rest
+  some-bytes low following p rest n s e b =
       record {
         item = bytes (shortest (length p)) p;
         fine = record { spelled = (Holds-shortest (length p) (omega (arith, s.range, e)), b); within = omega arith; clean = λ at c x. x.1 refl; keyless = λ at c x. cc x.0 };
         bytes = s.spelled 64 ∙ sym (append_assoc (head Bytes (shortest n) n) p rest) ∙ ap (λ k. (head Bytes (shortest k) k ++ p) ++ rest) e;
       }
 
-  pub a-text : (low : ℕ) (behind p rest : List ℕ) (n : ℕ) → IsShortest low behind n (p ++ rest) → n ≡ length p → AreBytes p → IsUtf8 p → IsItemThen o d ((96 + low) ∷ behind) rest
-  a-text low behind p rest n s e b u =
+  pub a-text : (low : ℕ) (following p rest : List ℕ) (n : ℕ) → IsShortest low following n (p ++ rest) → n ≡ length p → AreBytes p → IsUtf8 p → IsItemThen o d ((96 + low) ∷ following) rest
+  a-text low following p rest n s e b u =
       record {
         item = text (shortest (length p)) p;
         fine = record { spelled = (Holds-shortest (length p) (omega (arith, s.range, e)), b); within = omega arith; clean = λ at c x. elim x [ inl y ↦ y.1 refl | inr y ↦ y.1 u ]; keyless = λ at c x. elim x [ inl y ↦ cc y.0 | inr y ↦ cc y.0 ] };
         bytes = s.spelled 96 ∙ sym (append_assoc (head Text (shortest n) n) p rest) ∙ ap (λ k. (head Text (shortest k) k ++ p) ++ rest) e;
       }
 
-  pub no-array : (behind : List ℕ) → 0 < d → IsItemThen o d (128 ∷ behind) behind
-  no-array behind l = record {
+  pub no-array : (following : List ℕ) → 0 < d → IsItemThen o d (128 ∷ following) following
+  no-array following l = record {
     item = array Direct no_spellings;
     fine = record { spelled = (omega arith, tt); within = omega (arith, l); clean = λ at c x. elim x [ inl y ↦ y.1 refl | inr y ↦ y ]; keyless = λ at c x. elim x [ inl y ↦ cc y.0 | inr y ↦ y ] };
     bytes = refl;
   }
 
-  pub no-map : (behind : List ℕ) → 0 < d → IsItemThen o d (160 ∷ behind) behind
-  no-map behind l = record {
+  pub no-map : (following : List ℕ) → 0 < d → IsItemThen o d (160 ∷ following) following
+  no-map following l = record {
     item = a_map Direct no_entries;
     fine = record { spelled = (omega arith, tt); within = omega (arith, l); clean = λ at c x. elim x [ inl y ↦ y.1 refl | inr y ↦ y ]; keyless = λ at c x. elim x [ inl y ↦ cc y.0 | inr y ↦ y ] };
     bytes = refl;

@@ -4,7 +4,7 @@ use Rattle.std.proofs.lemmas.List.{drop-drop}
 use Rattle.cbor_head.specs.Prelude.{strict, Bounds, AreBytes}
 use Rattle.cbor_head.specs.declared.order.KeyOrder.{KeyOrder}
 use Rattle.theory_verdicts.specs.PathKinds.{KeepsHere}
-use Rattle.cbor_parser.specs.inner.Cells.{StrictCell, strict_cell, StandsAt, HasEndedAt, HasClosed}
+use Rattle.cbor_parser.specs.inner.Cells.{StrictCell, strict_cell, AgreesAt, HasEndedAt, HasClosed}
 use Rattle.cbor_parser.specs.inner.StrictRules.{AreBefore, Expect, HaveItem, Fill, Pass, Stop, Advances}
 use Rattle.cbor_parser.specs.declared.item_rules.Step.TheVariants as step
 use Rattle.cbor_parser.specs.declared.strict_rules.StrictStop.TheVariants as stop
@@ -15,18 +15,18 @@ use Rattle.cbor_parser.specs.declared.strict_rules.{StrictRules.StrictRules, Str
 
 module _ (first now : StrictRules) (limits : Bounds) (input : List ℕ) (c : StrictCell) (cs : List StrictCell) (rest : List ℕ) (h : Expect first now limits input (c ∷ cs) rest) where
   -- after the first `used` bytes
-  module _ (used : ℕ) (some : 0 < used) (inside : used ≤ length rest) (behind : List ℕ) (is : behind ≡ drop used rest) where
+  module _ (used : ℕ) (some : 0 < used) (inside : used ≤ length rest) (following : List ℕ) (is : following ≡ drop used rest) where
     at : ℕ
     at = length input - length rest
 
-    left : length behind + used ≡ length rest
+    left : length following + used ≡ length rest
     left = omega (arith, ap length is, length-drop used rest, inside)
 
-    there : length input - length behind ≡ at + used
+    there : length input - length following ≡ at + used
     unfolding at
     there = let fewer = h.0.fewer in omega (arith, left, fewer)
 
-    moved : AreBefore first now input behind
+    moved : AreBefore first now input following
     unfolding at there
     moved = record {
       order = h.0.order;
@@ -37,7 +37,7 @@ module _ (first now : StrictRules) (limits : Bounds) (input : List ℕ) (c : Str
     }
 
     -- an item is whole
-    pub item_taken : (space : Bool) → IsLeaf space rest used → (space ≡ true → length h.1.ls < limits.depth) → IsFit limits c.expected rest → HaveItem first now limits input (c ∷ cs) behind
+    pub item_taken : (space : Bool) → IsLeaf space rest used → (space ≡ true → length h.1.ls < limits.depth) → IsFit limits c.expected rest → HaveItem first now limits input (c ∷ cs) following
     unfolding at there
     item_taken space leaf fits fit = (
       moved,
@@ -47,12 +47,12 @@ module _ (first now : StrictRules) (limits : Bounds) (input : List ℕ) (c : Str
     )
 
     -- a container opens
-    pub head_taken : (expected : Expected) (left : ℕ) → OpensWith expected left used rest → length h.1.ls < limits.depth → IsFit limits c.expected rest → Expect first now limits input (strict_cell expected left ((length input - length rest) + used) ∷ c ∷ cs) behind
+    pub head_taken : (expected : Expected) (left : ℕ) → OpensWith expected left used rest → length h.1.ls < limits.depth → IsFit limits c.expected rest → Expect first now limits input (strict_cell expected left ((length input - length rest) + used) ∷ c ∷ cs) following
     unfolding at there
     head_taken expected left opens space fit =
         let opens = subst (OpensWith expected left used) h.0.is opens in (
           moved,
-          subst (λ (n : ℕ). StandsAt first.order limits input (strict_cell expected left ((length input - length rest) + used) ∷ c ∷ cs) n) (sym there)
+          subst (λ (n : ℕ). AgreesAt first.order limits input (strict_cell expected left ((length input - length rest) + used) ∷ c ∷ cs) n) (sym there)
               (opener_opens first.order limits input (c ∷ cs) (length input - length rest) h.1 used opens.inside space
               (subst (KeepsHere limits (strict first.order) h.1.ls) h.0.is (fit_here first.order limits input c cs (length input - length rest) h.1 rest fit)) expected left opens.opener),
         )
@@ -79,5 +79,5 @@ pub starts : (first : StrictRules) (limits : Bounds) (input : List ℕ) → firs
 starts first limits input its are =
     let none : 0 ≡ length input - length input = omega arith in (
       record { order = refl; its = its; are = are; fewer = omega arith; is = ap (λ (n : ℕ). drop n input) none },
-      subst (StandsAt first.order limits input (strict_cell Item 0 0 ∷ [])) none (at_start first.order limits input),
+      subst (AgreesAt first.order limits input (strict_cell Item 0 0 ∷ [])) none (at_start first.order limits input),
     )

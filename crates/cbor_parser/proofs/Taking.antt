@@ -11,7 +11,7 @@ use Rattle.theory_verdicts.specs.Path.{a_member, a_key, a_value, tagged, level_b
 use Rattle.theory_verdicts.proofs.PathKinds.{kept_prefix, head_begun, keeps_begun, keeps_item}
 use Rattle.theory_verdicts.proofs.{Items.is-definite, Heads.open_or, Heads.takes, KindBytes.head_is_one, KindFrames.keeps_start}
 use Rattle.theory_verdicts.specs.{Judged.Never, Kinds.KeepsToKinds, PathKinds.KeepsHere, RefusedHere.IsPlaceFor}
-use Rattle.cbor_parser.specs.inner.Cells.{strict_cell, AreCells, StandsAt, HasEndedAt, IsWhole}
+use Rattle.cbor_parser.specs.inner.Cells.{strict_cell, AreCells, AgreesAt, HasEndedAt, IsWhole}
 use Rattle.cbor_parser.specs.declared.container.Expected.TheVariants.{Item, Key, Value}
 use Rattle.cbor_parser.proofs.CellSteps.{item_is_no_key, key_is_no_value, item_full}
 use Rattle.cbor_parser.specs.inner.Cells.{StrictCell}
@@ -40,7 +40,7 @@ key_expected input [] c [] a e = absurd (item_is_no_key c a.0 e)
 key_expected input [] c (x ∷ xs) a e = absurd a
 
 -- whether it is a key whose kind is judged
-pub key_asked : (o : KeyOrder) (limits : Bounds) (input : List ℕ) (c : StrictCell) (cs : List StrictCell) (at : ℕ) (s : StandsAt o limits input (c ∷ cs) at) (is_key : Bool)
+pub key_asked : (o : KeyOrder) (limits : Bounds) (input : List ℕ) (c : StrictCell) (cs : List StrictCell) (at : ℕ) (s : AgreesAt o limits input (c ∷ cs) at) (is_key : Bool)
     → (is_key ≡ true → (limits.keys ≡ IntegersAndTexts) × (c.expected ≡ Key)) → (is_key ≡ false → limits.keys ≡ IntegersAndTexts → c.expected ≡ Key → ⊥) → IsKeyAsked is_key limits s.ls
 key_asked o limits input c cs at s is_key both none = record {
   both = λ e. let b = both e in (b.0, key_expected input s.ls c cs s.are b.1);
@@ -63,7 +63,7 @@ from_none left = omega arith
 no_bytes : (xs : List ℕ) (at : ℕ) → slice_range xs at at ≡ []
 no_bytes xs at = let e : at - at ≡ 0 = omega arith in ap (λ (n : ℕ). take n (drop at xs)) e
 
-module _ (o : KeyOrder) (limits : Bounds) (input : List ℕ) (cs : List StrictCell) (at : ℕ) (s : StandsAt o limits input cs at) where
+module _ (o : KeyOrder) (limits : Bounds) (input : List ℕ) (cs : List StrictCell) (at : ℕ) (s : AgreesAt o limits input cs at) where
   pub rest_is : drop at input ≡ s.rest
   rest_is = ap (λ (n : ℕ). drop n input) s.here ∙ ap (drop (length (bytes_before s.ls))) s.bytes ∙ drop-append_seam (bytes_before s.ls) s.rest
 
@@ -89,7 +89,7 @@ module _ (o : KeyOrder) (limits : Bounds) (input : List ℕ) (cs : List StrictCe
   -- a container opens, whose head these bytes are
   module _ (used : ℕ) (inside : used ≤ length (drop at input)) (space : length s.ls < limits.depth) (kept : KeepsHere limits (strict o) s.ls (drop at input)) where
     opened : (l : path.Level) (c : StrictCell) (m : Major) (w : Width) (n : ℕ) → IsHead m w n → takes m ≤ limits.depth - length s.ls → Holds w n → drop at input ≡ head m w n ++ drop used (drop at input) → level_bytes l ≡ head m w n → path.IsClean (strict o) (length (bytes_before s.ls)) (limits.depth - suc (length s.ls)) l
-        → (at + used ≡ length (bytes_before (l ∷ s.ls)) → AreCells input (l ∷ s.ls) (c ∷ cs)) → StandsAt o limits input (c ∷ cs) (at + used)
+        → (at + used ≡ length (bytes_before (l ∷ s.ls)) → AreCells input (l ∷ s.ls) (c ∷ cs)) → AgreesAt o limits input (c ∷ cs) (at + used)
     opened l c m w n h deep holds e is clean are =
         let b = drop at input in
         let hs = head m w n in
@@ -107,7 +107,7 @@ module _ (o : KeyOrder) (limits : Bounds) (input : List ℕ) (cs : List StrictCe
           here = here;
         }
 
-    pub opener_opens : (expected : Expected) (left : ℕ) → IsOpener expected left (drop at input) (drop used (drop at input)) → StandsAt o limits input (strict_cell expected left (at + used) ∷ cs) (at + used)
+    pub opener_opens : (expected : Expected) (left : ℕ) → IsOpener expected left (drop at input) (drop used (drop at input)) → AgreesAt o limits input (strict_cell expected left (at + used) ∷ cs) (at + used)
     opener_opens Item left (inl h) =
         let n = suc left in
         let w = shortest n in
@@ -147,22 +147,22 @@ module _ (o : KeyOrder) (limits : Bounds) (input : List ℕ) (cs : List StrictCe
     opener_opens Value left h = absurd h
 
 -- as many as the stack's height
-pub height_is : (o : KeyOrder) (limits : Bounds) (input : List ℕ) (k : Stack StrictCell) (cells : List StrictCell) (at : ℕ) (s : StandsAt o limits input (open_levels StrictCell k cells) at) → k.height ≤ length cells → length s.ls ≡ k.height
+pub height_is : (o : KeyOrder) (limits : Bounds) (input : List ℕ) (k : Stack StrictCell) (cells : List StrictCell) (at : ℕ) (s : AgreesAt o limits input (open_levels StrictCell k cells) at) → k.height ≤ length cells → length s.ls ≡ k.height
 height_is o limits input k cells at s l = omega (arith, cells_count input s.ls (open_levels StrictCell k cells) s.are, open_levels_count StrictCell k cells l)
 
 -- they exist, and one more may open if there is space for it
-pub place_for : (o : KeyOrder) (limits : Bounds) (d : ℕ) (input : List ℕ) (k : Stack StrictCell) (cells : List StrictCell) (at : ℕ) (s : StandsAt o limits input (open_levels StrictCell k cells) at) → k.height ≤ length cells → limits.depth ≡ d
+pub place_for : (o : KeyOrder) (limits : Bounds) (d : ℕ) (input : List ℕ) (k : Stack StrictCell) (cells : List StrictCell) (at : ℕ) (s : AgreesAt o limits input (open_levels StrictCell k cells) at) → k.height ≤ length cells → limits.depth ≡ d
     → IsPlaceFor (nat_lt k.height d) limits.depth s.ls at
 place_for o limits d input k cells at s l e =
     let height = height_is o limits input k cells at s l in
     record { here = s.here; fits = λ r. omega (arith, ltb-true k.height d r, height, e); full = λ r. omega (arith, ltb-false k.height d r, height, e) }
 
 -- what is expected is fit
-pub fit_here : (o : KeyOrder) (limits : Bounds) (input : List ℕ) (c : StrictCell) (cs : List StrictCell) (at : ℕ) (s : StandsAt o limits input (c ∷ cs) at) (rest : List ℕ) → IsFit limits c.expected rest → KeepsHere limits (strict o) s.ls rest
+pub fit_here : (o : KeyOrder) (limits : Bounds) (input : List ℕ) (c : StrictCell) (cs : List StrictCell) (at : ℕ) (s : AgreesAt o limits input (c ∷ cs) at) (rest : List ℕ) → IsFit limits c.expected rest → KeepsHere limits (strict o) s.ls rest
 fit_here o limits input c cs at s rest fit = record { before = s.keeps; here = λ asked expected. fit asked.1 (expected_key input s.ls c cs s.are expected) }
 
 -- the item of the input is expected before its first byte
-pub at_start : (o : KeyOrder) (limits : Bounds) (input : List ℕ) → StandsAt o limits input (strict_cell Item 0 0 ∷ []) 0
+pub at_start : (o : KeyOrder) (limits : Bounds) (input : List ℕ) → AgreesAt o limits input (strict_cell Item 0 0 ∷ []) 0
 at_start o limits input = record { ls = []; clean = tt; keeps = keeps_start limits (strict o); are = (refl, refl, refl); rest = input; bytes = refl; here = refl }
 
 -- nothing is open around it

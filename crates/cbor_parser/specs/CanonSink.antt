@@ -7,11 +7,11 @@ use Rattle.theory_verdicts.specs.Levels.{Level, ParseState, item_expected, item_
 use Rattle.theory_verdicts.specs.{Given.opens, Given.IsFull, Reading.string_major}
 
 -- in its order of keys, it holds the canonical bytes of what is complete
-abbrev pub canon_stands : Built → Built → ParseState → Type 0
-canon_stands start g (item_expected ls) = (g.order ≡ start.order) × (g.open_levels ≡ opens start.order ls)
-canon_stands start g (item_full ls s) =
+abbrev pub canon_agrees : Built → Built → ParseState → Type 0
+canon_agrees start g (item_expected ls) = (g.order ≡ start.order) × (g.open_levels ≡ opens start.order ls)
+canon_agrees start g (item_full ls s) =
     (g.order ≡ start.order) × ((d : ℕ) × (c : parts.Open) × IsFull start.order d c s × (g.open_levels ≡ c ∷ opens start.order ls))
-canon_stands start g (item_whole s) = (g.order ≡ start.order) × (g.open_levels ≡ parts.plain (canonical start.order (value_of s)) ∷ [])
+canon_agrees start g (item_whole s) = (g.order ≡ start.order) × (g.open_levels ≡ parts.plain (canonical start.order (value_of s)) ∷ [])
 
 -- within a string, it also holds the content so far
 abbrev pub canon_holds : Built → Built → List Level → Bool → List ℕ → Type 0

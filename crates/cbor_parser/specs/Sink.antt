@@ -39,7 +39,7 @@ awaits_key (item_whole s) = false
 
 -- a sink is at this position, and the flag it gets (a key is expected, or a map ends) is right
 abbrev pub Reported : (S : Type 0) → (S → S → ParseState → Type 0) → Bool → S → S → ParseState → Type 0
-Reported S stands is_key start g st = stands start g st × (is_key ≡ awaits_key st)
+Reported S agrees is_key start g st = agrees start g st × (is_key ≡ awaits_key st)
 
 -- ---- what fits
 
@@ -82,30 +82,30 @@ IsReportedFull ls s repeat = (o : KeyOrder) × IsRepeatReported (full_open o s �
 
 -- an item is expected, a key or not
 abbrev pub IsItemExpected : (S : Type 0) → (S → S → ParseState → Type 0) → Bool → S → Type 0
-IsItemExpected S stands is_key g = (start : S) × (d : ℕ) × (ls : List Level) × AreOpenLevels d ls × Reported S stands is_key start g (item_expected ls)
+IsItemExpected S agrees is_key g = (start : S) × (d : ℕ) × (ls : List Level) × AreOpenLevels d ls × Reported S agrees is_key start g (item_expected ls)
 
 -- an item of this value is given
 abbrev pub Gives : (S : Type 0) → (S → S → ParseState → Type 0) → Bool → Value → S → S → Type 0
-Gives S stands is_key v old new =
-    (start : S) (d : ℕ) (ls : List Level) (s : Spelling) → Reported S stands is_key start old (item_expected ls) → Completes d ls s → value_of s ≡ v → stands start new (settle ls s)
+Gives S agrees is_key v old new =
+    (start : S) (d : ℕ) (ls : List Level) (s : Spelling) → Reported S agrees is_key start old (item_expected ls) → Completes d ls s → value_of s ≡ v → agrees start new (settle ls s)
 
 -- a container opens
 abbrev pub Opens : (S : Type 0) → (S → S → ParseState → Type 0) → Bool → Major → ℕ → S → S → Type 0
-Opens S stands is_key m n old new = (start : S) (ls : List Level) (l : Level) → Reported S stands is_key start old (item_expected ls) → IsOpened m n l → stands start new (item_expected (l ∷ ls))
+Opens S agrees is_key m n old new = (start : S) (ls : List Level) (l : Level) → Reported S agrees is_key start old (item_expected ls) → IsOpened m n l → agrees start new (item_expected (l ∷ ls))
 
 -- this container has no more members: its last item was given, or it is of indefinite length
-abbrev pub StandsFull : (S : Type 0) → (S → S → ParseState → Type 0) → ℕ → S → S → List Level → Spelling → Type 0
-StandsFull S stands d start g ls s =
-    stands start g (item_full ls s) ⊎ ((l : Level) × IsEndedAs l s × AreLevels d (l ∷ ls) × stands start g (item_expected (l ∷ ls)))
+abbrev pub AgreesAsFull : (S : Type 0) → (S → S → ParseState → Type 0) → ℕ → S → S → List Level → Spelling → Type 0
+AgreesAsFull S agrees d start g ls s =
+    agrees start g (item_full ls s) ⊎ ((l : Level) × IsEndedAs l s × AreLevels d (l ∷ ls) × agrees start g (item_expected (l ∷ ls)))
 
 -- a container should end, a map or not
 abbrev pub IsContainerFull : (S : Type 0) → (S → S → ParseState → Type 0) → Bool → Bool → S → Type 0
-IsContainerFull S stands trusts is_map g = (start : S) × (d : ℕ) × (ls : List Level) × (s : Spelling) × Fills trusts d ls s × StandsFull S (Reported S stands is_map) d start g ls s
+IsContainerFull S agrees trusts is_map g = (start : S) × (d : ℕ) × (ls : List Level) × (s : Spelling) × Fills trusts d ls s × AgreesAsFull S (Reported S agrees is_map) d start g ls s
 
 -- it ends, and has no equal keys
 abbrev pub Ends : (S : Type 0) → (S → S → ParseState → Type 0) → Bool → Bool → S → S → Type 0
-Ends S stands trusts is_map old new =
-    (start : S) (d : ℕ) (ls : List Level) (s : Spelling) → Fills trusts d ls s → StandsFull S (Reported S stands is_map) d start old ls s → IsClean s × stands start new (settle ls s)
+Ends S agrees trusts is_map old new =
+    (start : S) (d : ℕ) (ls : List Level) (s : Spelling) → Fills trusts d ls s → AgreesAsFull S (Reported S agrees is_map) d start old ls s → IsClean s × agrees start new (settle ls s)
 
 -- it has no keys
 abbrev pub IsKeyless : Spelling → Type 0
@@ -114,14 +114,14 @@ IsKeyless _ = Unit {0}
 
 -- it does not end, since two of its keys are equal, and this key is reported
 abbrev pub Repeats : (S : Type 0) → (S → S → ParseState → Type 0) → Bool → Bool → S → Repeat → Type 0
-Repeats S stands trusts is_map old repeat =
-    (start : S) (d : ℕ) (ls : List Level) (s : Spelling) → Fills trusts d ls s → StandsFull S (Reported S stands is_map) d start old ls s → IsReportedFull ls s repeat × (IsKeyless s → ⊥)
+Repeats S agrees trusts is_map old repeat =
+    (start : S) (d : ℕ) (ls : List Level) (s : Spelling) → Fills trusts d ls s → AgreesAsFull S (Reported S agrees is_map) d start old ls s → IsReportedFull ls s repeat × (IsKeyless s → ⊥)
 
 -- ---- a string in chunks, by the relation that says what its content so far is
 
 -- a string begins, with no chunks
 abbrev pub BeginsString : (S : Type 0) → (S → S → ParseState → Type 0) → (S → S → List Level → Bool → List ℕ → Type 0) → Bool → Bool → S → S → Type 0
-BeginsString S stands holds is_key is_text old new = (start : S) (ls : List Level) → Reported S stands is_key start old (item_expected ls) → holds start new ls is_text []
+BeginsString S agrees holds is_key is_text old new = (start : S) (ls : List Level) → Reported S agrees is_key start old (item_expected ls) → holds start new ls is_text []
 
 -- a chunk of the string is expected
 abbrev pub IsChunkExpected : (S : Type 0) → (S → S → List Level → Bool → List ℕ → Type 0) → Bool → Bool → S → Type 0
@@ -135,9 +135,9 @@ GrowsString S holds is_key is_text chunk old new =
 
 -- the string ends
 abbrev pub EndsString : (S : Type 0) → (S → S → ParseState → Type 0) → (S → S → List Level → Bool → List ℕ → Type 0) → Bool → Bool → S → S → Type 0
-EndsString S stands holds is_key is_text old new =
+EndsString S agrees holds is_key is_text old new =
     (start : S) (d : ℕ) (ls : List Level) (content : List ℕ) (s : Spelling) → holds start old ls is_text content → is_key ≡ key_expected ls
-    → Completes d ls s → value_of s ≡ string_value is_text content → stands start new (settle ls s)
+    → Completes d ls s → value_of s ≡ string_value is_text content → agrees start new (settle ls s)
 
 -- ---- keys
 
@@ -147,23 +147,23 @@ AreKeysDistinct ls = (o : KeyOrder) × AreOpenKeysDifferent (opens o ls)
 
 -- an item is expected in these containers, or a chunk of a string
 abbrev pub IsWithin : (S : Type 0) → (S → S → ParseState → Type 0) → (S → S → List Level → Bool → List ℕ → Type 0) → S → S → List Level → Type 0
-IsWithin S stands holds start g ls = stands start g (item_expected ls) ⊎ ((is_text : Bool) × (content : List ℕ) × holds start g ls is_text content)
+IsWithin S agrees holds start g ls = agrees start g (item_expected ls) ⊎ ((is_text : Bool) × (content : List ℕ) × holds start g ls is_text content)
 
 -- wherever an item or a chunk is expected, no key is repeated
 abbrev pub FindsNoRepeat : (S : Type 0) → (S → S → ParseState → Type 0) → (S → S → List Level → Bool → List ℕ → Type 0) → S → Type 0
-FindsNoRepeat S stands holds g = (start : S) (ls : List Level) → IsWithin S stands holds start g ls → AreKeysDistinct ls
+FindsNoRepeat S agrees holds g = (start : S) (ls : List Level) → IsWithin S agrees holds start g ls → AreKeysDistinct ls
 
 -- wherever an item or a chunk is expected, this is the key to report
 abbrev pub FindsRepeat : (S : Type 0) → (S → S → ParseState → Type 0) → (S → S → List Level → Bool → List ℕ → Type 0) → S → Repeat → Type 0
-FindsRepeat S stands holds g repeat = (start : S) (ls : List Level) → IsWithin S stands holds start g ls → IsReportedIn ls repeat
+FindsRepeat S agrees holds g repeat = (start : S) (ls : List Level) → IsWithin S agrees holds start g ls → IsReportedIn ls repeat
 
 -- ---- a key that is expected
 
 -- a key is expected in this container, after these pairs
-abbrev pub IsKeyBehind : Level → SpelledEntries → Type 0
-IsKeyBehind (a_key w left done) es = es ≡ done
-IsKeyBehind (some_key done) es = es ≡ done
-IsKeyBehind _ es = ⊥
+abbrev pub IsKeyAfter : Level → SpelledEntries → Type 0
+IsKeyAfter (a_key w left done) es = es ≡ done
+IsKeyAfter (some_key done) es = es ≡ done
+IsKeyAfter _ es = ⊥
 
 -- ---- the whole item
 

@@ -9,12 +9,12 @@ use Rattle.theory_verdicts.specs.{Judged.Never, RefusedHere.IsRefusedBy}
 -- the head of a string, and what follows it
 pub record IsStringHead (b : List ℕ) (head : Argument) : Type 0 where
   pub first : ℕ
-  pub behind : List ℕ
-  pub is : b ≡ first ∷ behind
+  pub following : List ℕ
+  pub is : b ≡ first ∷ following
   pub low : 64 ≤ first
   pub high : first < 128
-  pub argument : IsArgument (first % 32) behind head.width head.number head.rest.now
-  pub fewer : length head.rest.now ≤ length behind
+  pub argument : IsArgument (first % 32) following head.width head.number head.rest.now
+  pub fewer : length head.rest.now ≤ length following
 
 -- its payload is complete, and is UTF-8 if it is a text's
 pub record IsStringWhole (b : List ℕ) (head : Argument) : Type 0 where

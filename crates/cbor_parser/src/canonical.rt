@@ -58,7 +58,7 @@ fn whole_prefix(input: &[u8], limits: Limits, order: KeyOrder) -> Result<usize, 
     }
     let mut rules = StrictRules::new(input, order);
     match parse(&mut rules, input, strict_cell(Expected::Item, 0, 0), limits) {
-        Ok(behind) => Ok(input.len() - behind.len()),
+        Ok(following) => Ok(input.len() - following.len()),
         Err(refusal) => Err(refusal),
     }
 }

@@ -2,7 +2,7 @@
 
 ghost use Rattle.std.specs.Prelude.{◌≡◌, IsTrue};
 ghost use Rattle.theory_verdicts.specs.Reading.{string_major};
-ghost use Rattle.cbor_parser.specs.CanonSink.{canon_stands, canon_holds};
+ghost use Rattle.cbor_parser.specs.CanonSink.{canon_agrees, canon_holds};
 
 use crate::sink::Sink;
 use cbor_builder::{CanonBuilder, Repeat};
@@ -10,7 +10,7 @@ use cbor_head::Major;
 use std::alloc::AllocError;
 
 impl<'a> Sink<'a> for CanonBuilder {
-    ghost stands = { canon_stands };
+    ghost agrees = { canon_agrees };
 
     ghost holds = { canon_holds };
 

@@ -14,7 +14,7 @@ use cbor_head::{Argument, read_argument};
 use cbor_text::is_text_prefix;
 
 impl<S> Parser<S> {
-    /// Takes the string that `rest` begins with. Its payload has `count` bytes; `behind` follows
+    /// Takes the string that `rest` begins with. Its payload has `count` bytes; `following` follows
     /// its head.
     #[inline(always)]
     pub(crate) fn take_string<'a>(
@@ -23,39 +23,39 @@ impl<S> Parser<S> {
         is_text: bool,
         count: u64,
         rest: &'a [u8],
-        behind: &'a [u8],
+        following: &'a [u8],
     ) -> Part<SinkStop>
     where
         S: Sink<'a>,
-        requires head { IsHead (string_major is_text) count rest.now behind.now }
-        requires expected { IsExpectedFor S S.stands S.trusts top.now self.old.sink rest.now }
-        ensures takes { TakesItem S S.stands S.trusts S.holds S.refused result rest.now top.now self.old.sink self.new.sink }
+        requires head { IsHead (string_major is_text) count rest.now following.now }
+        requires expected { IsExpectedFor S S.agrees S.trusts top.now self.old.sink rest.now }
+        ensures takes { TakesItem S S.agrees S.trusts S.holds S.refused result rest.now top.now self.old.sink self.new.sink }
         ensures prefix { TakesScalar result rest.now }
-        ensures untaken { result ≡ parts.Untaken → IsWholePayload is_text count behind.now → ⊥ }
+        ensures untaken { result ≡ parts.Untaken → IsWholePayload is_text count following.now → ⊥ }
     {
-        let Some(size) = payload_size::<S>(is_text, count, behind) else {
+        let Some(size) = payload_size::<S>(is_text, count, following) else {
             return Part::Untaken;
         };
         let is_key = top.expected.is_key();
-        match self.sink.string(is_key, is_text, behind, size) {
-            Ok(()) => Part::Item(rest.len() - behind.len() + size),
+        match self.sink.string(is_key, is_text, following, size) {
+            Ok(()) => Part::Item(rest.len() - following.len() + size),
             Err(_) => Part::Stopped(SinkStop::Memory),
         }
     }
 
-    /// Takes the string in chunks that `start` begins with; `behind` follows its opener.
+    /// Takes the string in chunks that `start` begins with; `following` follows its opener.
     pub(crate) fn take_chunks<'a>(
         &mut self,
         top: &OpenContainer<usize>,
         is_text: bool,
         start: &'a [u8],
-        behind: &'a [u8],
+        following: &'a [u8],
     ) -> Part<SinkStop>
     where
         S: Sink<'a>,
-        requires opener { start.now ≡ chunked_from is_text behind.now }
-        requires expected { IsExpectedFor S S.stands S.trusts top.now self.old.sink start.now }
-        ensures takes { TakesItem S S.stands S.trusts S.holds S.refused result start.now top.now self.old.sink self.new.sink }
+        requires opener { start.now ≡ chunked_from is_text following.now }
+        requires expected { IsExpectedFor S S.agrees S.trusts top.now self.old.sink start.now }
+        ensures takes { TakesItem S S.agrees S.trusts S.holds S.refused result start.now top.now self.old.sink self.new.sink }
         ensures prefix { TakesScalar result start.now }
         ensures untaken { result ≡ parts.Untaken → ⊥ }
     {
@@ -63,18 +63,18 @@ impl<S> Parser<S> {
         let Ok(()) = self.sink.begin_string(is_key, is_text) else {
             return Part::Stopped(SinkStop::Memory);
         };
-        let mut rest = behind;
+        let mut rest = following;
         'chunks: loop {
-            let Some((first, behind)) = rest.split_first() else {
+            let Some((first, following)) = rest.split_first() else {
                 return Part::Stopped(SinkStop::Broken);
             };
             if *first == 0xff {
                 return match self.sink.end_string(is_key, is_text) {
-                    Ok(()) => Part::Item(start.len() - behind.len()),
+                    Ok(()) => Part::Item(start.len() - following.len()),
                     Err(_) => Part::Stopped(SinkStop::Memory),
                 };
             }
-            let Some(head) = chunk_head(is_text, *first, behind) else {
+            let Some(head) = chunk_head(is_text, *first, following) else {
                 return Part::Stopped(SinkStop::Broken);
             };
             let Some(size) = payload_size::<S>(is_text, head.number, head.rest) else {
@@ -90,17 +90,17 @@ impl<S> Parser<S> {
 
 // The head of a chunk with this first byte.
 #[inline(always)]
-fn chunk_head<'a>(is_text: bool, first: u8, behind: &'a [u8]) -> Option<Argument<'a>>
+fn chunk_head<'a>(is_text: bool, first: u8, following: &'a [u8]) -> Option<Argument<'a>>
     ensures some { IfSome result (λ head.
-        IsHead (string_major is_text) head.number (first ∷ behind.now) head.rest.now) }
+        IsHead (string_major is_text) head.number (first ∷ following.now) head.rest.now) }
     ensures none { result ≡ None → (n : ℕ) (rest : List ℕ)
-        → IsHead (string_major is_text) n (first ∷ behind.now) rest → ⊥ }
+        → IsHead (string_major is_text) n (first ∷ following.now) rest → ⊥ }
 {
     let kind = if is_text { 3 } else { 2 };
     if first / 32 != kind || first % 32 > 27 {
         return None;
     }
-    read_argument(first % 32, behind)
+    read_argument(first % 32, following)
 }
 
 // The size of a payload, if all its bytes are there, and are UTF-8 if it is a text's. If the item

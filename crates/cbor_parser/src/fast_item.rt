@@ -28,7 +28,7 @@ pub(crate) enum FastItem {
 /// expected, a key that is neither an integer nor a text is not recognised.
 #[inline(always)]
 pub(crate) fn fast_item(first: u8, rest: &[u8], expected: &Expected, keys: Keys) -> FastItem
-    requires { (behind : List ℕ) × (rest.now ≡ first ∷ behind) }
+    requires { (following : List ℕ) × (rest.now ≡ first ∷ following) }
     ensures prefix { IsShortPrefix result rest.now }
     ensures fits { IsSaid result → keys ≡ IntegersAndTexts → expected.now ≡ Expected.Key → IsFitPrefix rest.now }
 {
@@ -54,7 +54,7 @@ pub(crate) fn fast_item(first: u8, rest: &[u8], expected: &Expected, keys: Keys)
 // The number of bytes of a head in its shortest form; 0 claims nothing.
 #[inline(always)]
 fn head_size(first: u8, rest: &[u8]) -> usize
-    requires { (behind : List ℕ) × (rest.now ≡ first ∷ behind) }
+    requires { (following : List ℕ) × (rest.now ≡ first ∷ following) }
     ensures { 0 < result → HasShortestHead first result rest.now }
 {
     let low = first % 32;
@@ -64,8 +64,8 @@ fn head_size(first: u8, rest: &[u8]) -> usize
     if low > 27 {
         return 0;
     }
-    let behind = &rest[1..];
-    match behind.first_chunk::<8>() {
+    let following = &rest[1..];
+    match following.first_chunk::<8>() {
         Some(chunk) => {
             if u64::from_be_bytes(*chunk) < least(low) {
                 return 0;
@@ -73,7 +73,7 @@ fn head_size(first: u8, rest: &[u8]) -> usize
             1 + usize::from(argument_bytes(low))
         }
         // Fewer than eight bytes follow: only an argument of one byte is recognised.
-        None if low == 24 && !behind.is_empty() && behind[0] >= 24 => 2,
+        None if low == 24 && !following.is_empty() && following[0] >= 24 => 2,
         None => 0,
     }
 }
@@ -98,7 +98,7 @@ fn least(low: u8) -> u64
 // A string of up to 255 bytes.
 #[inline(always)]
 fn string(first: u8, rest: &[u8], expected: &Expected, keys: Keys) -> FastItem
-    requires prefix { (behind : List ℕ) × (rest.now ≡ first ∷ behind) }
+    requires prefix { (following : List ℕ) × (rest.now ≡ first ∷ following) }
     requires kind { (64 ≤ first) × (first < 128) }
     ensures prefix { IsShortPrefix result rest.now }
     ensures fits { IsSaid result → keys ≡ IntegersAndTexts → expected.now ≡ Expected.Key → IsFitPrefix rest.now }
@@ -121,7 +121,7 @@ fn string(first: u8, rest: &[u8], expected: &Expected, keys: Keys) -> FastItem
 // Where the payload of a string of up to 255 bytes begins and ends, if it is complete.
 #[inline(always)]
 fn short_string(first: u8, rest: &[u8]) -> Option<(usize, usize)>
-    requires { (behind : List ℕ) × (rest.now ≡ first ∷ behind) }
+    requires { (following : List ℕ) × (rest.now ≡ first ∷ following) }
     ensures { IfSome result (λ r. IsShortString first rest.now r.0 r.1) }
 {
     let low = first % 32;
@@ -141,7 +141,7 @@ fn short_string(first: u8, rest: &[u8]) -> Option<(usize, usize)>
 // An array or map of 1 to 23 members or pairs.
 #[inline(always)]
 fn container(first: u8, rest: &[u8]) -> FastItem
-    requires prefix { (behind : List ℕ) × (rest.now ≡ first ∷ behind) }
+    requires prefix { (following : List ℕ) × (rest.now ≡ first ∷ following) }
     requires kind { (128 ≤ first) × (first < 192) }
     ensures { IsShortPrefix result rest.now }
 {

@@ -25,7 +25,7 @@ impl<S> Parser<S> {
         &mut self,
         rest: &'a [u8],
         first: u8,
-        behind: &'a [u8],
+        following: &'a [u8],
         stack: &mut Stack<OpenContainer<usize>>,
         cells: &mut [OpenContainer<usize>],
         depth: usize,
@@ -33,24 +33,24 @@ impl<S> Parser<S> {
     where
         S: Sink<'a>,
         requires cells { stack.old.height ≤ length cells.old }
-        requires begins { rest.now ≡ first ∷ behind.now }
-        requires expected { IsExpectedIn S S.stands S.trusts depth (open_levels Cell stack.old cells.old) self.old.sink rest.now }
+        requires begins { rest.now ≡ first ∷ following.now }
+        requires expected { IsExpectedIn S S.agrees S.trusts depth (open_levels Cell stack.old cells.old) self.old.sink rest.now }
         ensures cells { stack.new.height ≤ length cells.new }
-        ensures takes { Takes S S.stands S.trusts S.holds S.refused result depth rest.now (open_levels Cell stack.old cells.old)
+        ensures takes { Takes S S.agrees S.trusts S.holds S.refused result depth rest.now (open_levels Cell stack.old cells.old)
             self.old.sink (open_levels Cell stack.new cells.new) self.new.sink }
         ensures prefix { TakesPrefix result (depth - stack.old.height) stack.old.top rest.now }
         ensures untaken { result ≡ parts.Untaken → 27 < first % 32 → (keys : Keys)
             → IsLeft keys depth stack.new.top stack.new.height (length cells.new) rest.now }
     {
         match first {
-            0x5f => self.take_chunks(&stack.top, false, rest, behind),
-            0x7f => self.take_chunks(&stack.top, true, rest, behind),
+            0x5f => self.take_chunks(&stack.top, false, rest, following),
+            0x7f => self.take_chunks(&stack.top, true, rest, following),
             0x9f => self.open(
                 Major::Array,
                 0,
-                OpenContainer::indefinite(Expected::Item, behind.len()),
+                OpenContainer::indefinite(Expected::Item, following.len()),
                 rest,
-                behind,
+                following,
                 stack,
                 cells,
                 depth,
@@ -58,9 +58,9 @@ impl<S> Parser<S> {
             0xbf => self.open(
                 Major::Map,
                 0,
-                OpenContainer::indefinite(Expected::Key, behind.len()),
+                OpenContainer::indefinite(Expected::Key, following.len()),
                 rest,
-                behind,
+                following,
                 stack,
                 cells,
                 depth,

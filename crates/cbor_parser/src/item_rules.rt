@@ -52,7 +52,7 @@ pub(crate) trait ItemRules<'a> {
 
     // The rules went from the first state to this one, within these limits; now an item is expected in these
     // containers, before the rest of the input.
-    ghost stands: { Self → Self → Bounds → List ℕ → List (Cell Self.Kept) → List ℕ → Type 0 };
+    ghost agrees: { Self → Self → Bounds → List ℕ → List (Cell Self.Kept) → List ℕ → Type 0 };
 
     // An item of the innermost container is complete.
     ghost ends: { Self → Self → Bounds → List ℕ → List (Cell Self.Kept) → List ℕ → Type 0 };
@@ -82,11 +82,11 @@ pub(crate) trait ItemRules<'a> {
     ) -> Part<Self::Stop>
         requires cells { stack.old.height ≤ length cells.old }
         requires expected { (start : Self) × (input : List ℕ)
-            × stands start self.old limits input (open_levels (Cell Self.Kept) stack.old cells.old) rest.now }
+            × agrees start self.old limits input (open_levels (Cell Self.Kept) stack.old cells.old) rest.now }
         ensures cells { stack.new.height ≤ length cells.new }
         ensures takes { (start : Self) (input : List ℕ)
-            → stands start self.old limits input (open_levels (Cell Self.Kept) stack.old cells.old) rest.now
-            → TakesTo Self Self.Kept Self.Stop stands stops ends fills passes lacks result start self.new limits input
+            → agrees start self.old limits input (open_levels (Cell Self.Kept) stack.old cells.old) rest.now
+            → TakesTo Self Self.Kept Self.Stop agrees stops ends fills passes lacks result start self.new limits input
             (open_levels (Cell Self.Kept) stack.new cells.new) (length cells.new) rest.now };
 
     /// Ends an item of this container; these bytes follow it.
@@ -95,7 +95,7 @@ pub(crate) trait ItemRules<'a> {
             × ends start self.old limits input (top.old ∷ outer) rest.now }
         ensures { (start : Self) (limits : Bounds) (input : List ℕ) (outer : List (Cell Self.Kept))
             → ends start self.old limits input (top.old ∷ outer) rest.now
-            → StepsTo Self Self.Kept Self.Stop stands stops fills passes result start self.new limits input (top.new ∷ outer) rest.now };
+            → StepsTo Self Self.Kept Self.Stop agrees stops fills passes result start self.new limits input (top.new ∷ outer) rest.now };
 
     /// Ends this container, which is not the input itself; these bytes follow it.
     fn end_container(
@@ -121,9 +121,9 @@ pub(crate) trait ItemRules<'a> {
         requires cells { stack.now.height ≤ length cells.now }
         requires left { HasCellLeft stop stack.now.height (length cells.now) limits }
         requires within { length input.now ≤ 2 ^ 62 }
-        requires stopped { (start : Self) × StopsAt Self Self.Kept Self.Stop stands stops lacks stop start self.old limits input.now
+        requires stopped { (start : Self) × StopsAt Self Self.Kept Self.Stop agrees stops lacks stop start self.old limits input.now
             (open_levels (Cell Self.Kept) stack.now cells.now) (length cells.now) }
-        ensures { (start : Self) → StopsAt Self Self.Kept Self.Stop stands stops lacks stop.entry start self.old limits input.now
+        ensures { (start : Self) → StopsAt Self Self.Kept Self.Stop agrees stops lacks stop.entry start self.old limits input.now
             (open_levels (Cell Self.Kept) stack.now cells.now) (length cells.now)
             → refuses start self.new limits input.now result };
 }

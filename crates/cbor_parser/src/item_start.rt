@@ -54,7 +54,7 @@ pub(crate) fn item_start(rest: &[u8], at: usize, here: Here, is_strict: bool) ->
     ensures begins { BeginsUnrefused here rest.now result }
 {
     let end = at + rest.len();
-    let Some((first, behind)) = rest.split_first() else {
+    let Some((first, following)) = rest.split_first() else {
         return ItemStart::Refused(refusal_at(Reason::Truncated, end, end));
     };
     let (first, low) = (*first, *first % 32);
@@ -68,9 +68,9 @@ pub(crate) fn item_start(rest: &[u8], at: usize, here: Here, is_strict: bool) ->
         return ItemStart::Refused(refusal_at(Reason::KeyKind, at, at + 1));
     }
     if low == 31 {
-        return indefinite_start(first, behind, at, is_strict);
+        return indefinite_start(first, following, at, is_strict);
     }
-    let Some(head) = read_argument(low, behind) else {
+    let Some(head) = read_argument(low, following) else {
         return ItemStart::Refused(refusal_at(Reason::Truncated, end, end));
     };
     if first == 0xf8 && head.number < FIRST_SIMPLE_IN_TWO_BYTES {
@@ -99,18 +99,18 @@ pub(crate) fn refusal_at(reason: Reason, place: usize, read: usize) -> Refusal
     Refusal::new(reason, place as u64, read as u64)
 }
 
-// What begins with this opener of a string, an array or a map of indefinite length; `behind` follows
+// What begins with this opener of a string, an array or a map of indefinite length; `following` follows
 // it. By the strict rules it is refused; else a string's chunks are checked.
-fn indefinite_start(first: u8, behind: &[u8], at: usize, is_strict: bool) -> ItemStart
-    requires { at + 1 + length behind.now < 2 ^ 63 }
-    ensures { IsIndefiniteStart is_strict first behind.now at result }
+fn indefinite_start(first: u8, following: &[u8], at: usize, is_strict: bool) -> ItemStart
+    requires { at + 1 + length following.now < 2 ^ 63 }
+    ensures { IsIndefiniteStart is_strict first following.now at result }
 {
     if is_strict {
         return ItemStart::Refused(refusal_at(Reason::Indefinite, at, at + 1));
     }
     let chunks = match first {
-        0x5f => chunks_fault(false, behind, at),
-        0x7f => chunks_fault(true, behind, at),
+        0x5f => chunks_fault(false, following, at),
+        0x7f => chunks_fault(true, following, at),
         _ => None,
     };
     match chunks {

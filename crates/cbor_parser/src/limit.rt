@@ -2,7 +2,7 @@
 //! ends within an item.
 
 ghost use Rattle.std.specs.Prelude.{◌≡◌, take};
-ghost use Rattle.theory_verdicts.specs.Stop.{IsAnswered};
+ghost use Rattle.theory_verdicts.specs.Stop.{IsReportedAs};
 
 use cbor_head::{Reason, Refusal};
 
@@ -19,7 +19,7 @@ pub fn within(bytes: &[u8], limit: u64) -> &[u8]
 
 /// If the input ends within an item because of the limit, the item is too long and not truncated.
 pub fn truncated_or_too_long(refusal: Refusal, input: &[u8], limit: u64) -> Refusal
-    ensures { IsAnswered limit input.now refusal result }
+    ensures { IsReportedAs limit input.now refusal result }
 {
     if let Reason::Truncated = refusal.reason {
         if input.len() as u64 == limit {

@@ -20,11 +20,11 @@ pub(crate) fn parse<'a, R: ItemRules<'a>>(
     outermost: OpenContainer<R::Kept>,
     limits: Limits,
 ) -> Result<&'a [u8], R::Error>
-    requires expected { R.stands rules.old rules.old limits input.now (outermost ∷ []) input.now }
+    requires expected { R.agrees rules.old rules.old limits input.now (outermost ∷ []) input.now }
     requires within { length input.now ≤ 2 ^ 62 }
     requires fits { CellsFitInMemory R.Kept.row }
     ensures { MatchResult result
-        (λ behind. R.passes rules.old rules.new limits input.now behind.now)
+        (λ following. R.passes rules.old rules.new limits input.now following.now)
         (R.refuses rules.old rules.new limits input.now) }
 {
     let none = [outermost; 0];
@@ -43,21 +43,21 @@ fn shallow<'a, R: ItemRules<'a>>(
 ) -> Result<&'a [u8], R::Error>
     requires few { length few.now ≤ FEW }
     requires full { stack.height ≡ length few.now }
-    requires expected { (first : R) × R.stands first rules.old limits input.now
+    requires expected { (first : R) × R.agrees first rules.old limits input.now
         (open_levels (Cell R.Kept) stack few.now) rest.now }
     requires within { length input.now ≤ 2 ^ 62 }
     requires fits { CellsFitInMemory R.Kept.row }
     ensures { (first : R)
-        → R.stands first rules.old limits input.now (open_levels (Cell R.Kept) stack few.now) rest.now
+        → R.agrees first rules.old limits input.now (open_levels (Cell R.Kept) stack few.now) rest.now
         → MatchResult result
-        (λ behind. R.passes first rules.new limits input.now behind.now)
+        (λ following. R.passes first rules.new limits input.now following.now)
         (R.refuses first rules.new limits input.now) }
 {
     let mut stack = stack;
     let mut cells = [stack.top; FEW];
     lend(few, &mut cells);
     match walk(rules, rest, &mut stack, &mut cells, limits) {
-        Ok(behind) => Ok(behind),
+        Ok(following) => Ok(following),
         // If a cell is left, a missing cell is not the reason.
         Err(WalkStop::Untaken(rest)) if stack.height >= FEW => {
             deeper(rules, input, rest, stack, &cells, limits)
@@ -78,21 +78,21 @@ fn deeper<'a, R: ItemRules<'a>>(
 ) -> Result<&'a [u8], R::Error>
     requires few { length few.now ≤ MOST }
     requires full { stack.height ≡ length few.now }
-    requires expected { (first : R) × R.stands first rules.old limits input.now
+    requires expected { (first : R) × R.agrees first rules.old limits input.now
         (open_levels (Cell R.Kept) stack few.now) rest.now }
     requires within { length input.now ≤ 2 ^ 62 }
     requires fits { CellsFitInMemory R.Kept.row }
     ensures { (first : R)
-        → R.stands first rules.old limits input.now (open_levels (Cell R.Kept) stack few.now) rest.now
+        → R.agrees first rules.old limits input.now (open_levels (Cell R.Kept) stack few.now) rest.now
         → MatchResult result
-        (λ behind. R.passes first rules.new limits input.now behind.now)
+        (λ following. R.passes first rules.new limits input.now following.now)
         (R.refuses first rules.new limits input.now) }
 {
     let mut stack = stack;
     let mut cells = [stack.top; MOST];
     lend(few, &mut cells);
     match walk(rules, rest, &mut stack, &mut cells, limits) {
-        Ok(behind) => Ok(behind),
+        Ok(following) => Ok(following),
         Err(stop) => Err(rules.error(stop, &stack, &cells, input, limits)),
     }
 }

@@ -54,7 +54,7 @@ pub(crate) enum ParseError {
     /// A key is the same as an earlier one of its map.
     Repeated {
         /// This number of bytes of the input follows the map's head,
-        behind: usize,
+        following: usize,
         /// and this number of pairs comes before the key.
         pair: usize,
     },
@@ -84,21 +84,21 @@ impl<S> Parser<S> {
     pub fn parse_item<'a>(&mut self, bytes: &'a [u8], limits: Limits) -> Result<u64, Refusal>
     where
         S: Sink<'a>,
-        requires fresh { S.stands self.old.sink self.old.sink (item_expected []) }
+        requires fresh { S.agrees self.old.sink self.old.sink (item_expected []) }
         requires known { S.trusts ≡ true → IsKnownValid limits bytes.now }
         ensures given { MatchResult result
-            (λ size. IsGivenPrefix (S.stands self.old.sink self.new.sink) limits bytes.now size)
+            (λ size. IsGivenPrefix (S.agrees self.old.sink self.new.sink) limits bytes.now size)
             (λ f. IsStop limits bytes.now f) }
         ensures memory { IfErr result (λ f. f.reason ≡ reasons.Memory → S.refused self.new.sink) }
     {
         let input = within(bytes, limits.bytes());
         let outermost = OpenContainer::counted(Expected::Item, 0, 0);
         match parse(self, input, outermost, limits) {
-            Ok(behind) => Ok((input.len() - behind.len()) as u64),
+            Ok(following) => Ok((input.len() - following.len()) as u64),
             Err(ParseError::Refused(refusal)) => Err(refusal),
             // Only here the cells of the walk are off the stack.
-            Err(ParseError::Repeated { behind, pair }) => {
-                Err(repeated_key(input, behind, pair, limits))
+            Err(ParseError::Repeated { following, pair }) => {
+                Err(repeated_key(input, following, pair, limits))
             }
         }
     }
@@ -112,17 +112,17 @@ impl<'a, S: Sink<'a>> ItemRules<'a> for Parser<S> {
 
     type Error = ParseError;
 
-    ghost stands = { Expects S S.stands S.trusts };
+    ghost agrees = { Expects S S.agrees S.trusts };
 
-    ghost ends = { HasItem S S.stands S.trusts };
+    ghost ends = { HasItem S S.agrees S.trusts };
 
-    ghost fills = { Fills S S.stands S.trusts };
+    ghost fills = { Fills S S.agrees S.trusts };
 
-    ghost passes = { Passes S S.stands S.trusts };
+    ghost passes = { Passes S S.agrees S.trusts };
 
     ghost lacks = { Lacks };
 
-    ghost stops = { Stops S S.stands S.trusts S.holds S.refused };
+    ghost stops = { Stops S S.agrees S.trusts S.holds S.refused };
 
     ghost refuses = { λ first now limits input error. IsStopWithin (S.refused now.sink) limits input error };
 
@@ -176,9 +176,9 @@ impl<'a, S: Sink<'a>> ItemRules<'a> for Parser<S> {
         requires cells { stack.now.height ≤ length cells.now }
         requires left { HasCellLeft stop stack.now.height (length cells.now) limits }
         requires within { length input.now ≤ 2 ^ 62 }
-        requires stopped { (first : Parser S) × StopsAt (Parser S) ℕ SinkStop (Expects S S.stands S.trusts) (Stops S S.stands S.trusts S.holds S.refused)
+        requires stopped { (first : Parser S) × StopsAt (Parser S) ℕ SinkStop (Expects S S.agrees S.trusts) (Stops S S.agrees S.trusts S.holds S.refused)
             Lacks stop first self.old limits input.now (open_levels Cell stack.now cells.now) (length cells.now) }
-        ensures { (first : Parser S) → StopsAt (Parser S) ℕ SinkStop (Expects S S.stands S.trusts) (Stops S S.stands S.trusts S.holds S.refused)
+        ensures { (first : Parser S) → StopsAt (Parser S) ℕ SinkStop (Expects S S.agrees S.trusts) (Stops S S.agrees S.trusts S.holds S.refused)
             Lacks stop.entry first self.old limits input.now (open_levels Cell stack.now cells.now) (length cells.now)
             → IsStopWithin (S.refused self.new.sink) limits input.now result }
     {
@@ -226,7 +226,7 @@ fn repeated(
 {
     match reported_map(stack, cells, repeat.outside) {
         Some(map) => ParseError::Repeated {
-            behind: map.kept,
+            following: map.kept,
             pair: repeat.pair,
         },
         None => unreachable!(),

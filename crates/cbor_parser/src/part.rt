@@ -34,9 +34,9 @@ impl<S> Parser<S> {
     where
         S: Sink<'a>,
         requires cells { stack.old.height ≤ length cells.old }
-        requires expected { IsExpectedIn S S.stands S.trusts depth (open_levels Cell stack.old cells.old) self.old.sink rest.now }
+        requires expected { IsExpectedIn S S.agrees S.trusts depth (open_levels Cell stack.old cells.old) self.old.sink rest.now }
         ensures cells { stack.new.height ≤ length cells.new }
-        ensures takes { Takes S S.stands S.trusts S.holds S.refused result depth rest.now (open_levels Cell stack.old cells.old)
+        ensures takes { Takes S S.agrees S.trusts S.holds S.refused result depth rest.now (open_levels Cell stack.old cells.old)
             self.old.sink (open_levels Cell stack.new cells.new) self.new.sink }
         ensures prefix { TakesPrefix result (depth - stack.old.height) stack.old.top rest.now }
         ensures fits { HasTaken result → keys ≡ IntegersAndTexts → stack.old.top.expected ≡ Expected.Key
@@ -44,7 +44,7 @@ impl<S> Parser<S> {
         ensures untaken { result ≡ parts.Untaken
             → IsLeft keys depth stack.new.top stack.new.height (length cells.new) rest.now }
     {
-        let Some((first, behind)) = rest.split_first() else {
+        let Some((first, following)) = rest.split_first() else {
             return Part::Untaken;
         };
         let (kind, low) = (*first / 32, *first % 32);
@@ -52,24 +52,24 @@ impl<S> Parser<S> {
             if is_other_key(keys, stack.top.expected, rest) {
                 return Part::Untaken;
             }
-            return self.take_indefinite(rest, *first, behind, stack, cells, depth);
+            return self.take_indefinite(rest, *first, following, stack, cells, depth);
         }
-        let Some(head) = read_argument(low, behind) else {
+        let Some(head) = read_argument(low, following) else {
             return Part::Untaken;
         };
-        let (number, behind) = (head.number, head.rest);
+        let (number, following) = (head.number, head.rest);
         match kind {
-            0 => self.give_leaf(&stack.top, Major::Unsigned, number, rest, behind),
-            1 => self.give_leaf(&stack.top, Major::Negative, number, rest, behind),
-            3 => self.take_string(&stack.top, true, number, rest, behind),
+            0 => self.give_leaf(&stack.top, Major::Unsigned, number, rest, following),
+            1 => self.give_leaf(&stack.top, Major::Negative, number, rest, following),
+            3 => self.take_string(&stack.top, true, number, rest, following),
             _ if is_other_key(keys, stack.top.expected, rest) => Part::Untaken,
-            2 => self.take_string(&stack.top, false, number, rest, behind),
+            2 => self.take_string(&stack.top, false, number, rest, following),
             4 => self.take_counted(
                 Major::Array,
                 Expected::Item,
                 number,
                 rest,
-                behind,
+                following,
                 stack,
                 cells,
                 depth,
@@ -79,19 +79,19 @@ impl<S> Parser<S> {
                 Expected::Key,
                 number,
                 rest,
-                behind,
+                following,
                 stack,
                 cells,
                 depth,
             ),
             6 => {
-                let opened = OpenContainer::counted(Expected::Item, 0, behind.len());
+                let opened = OpenContainer::counted(Expected::Item, 0, following.len());
                 self.open(
                     Major::Tag,
                     number,
                     opened,
                     rest,
-                    behind,
+                    following,
                     stack,
                     cells,
                     depth,
@@ -101,7 +101,7 @@ impl<S> Parser<S> {
                 if low > 24 || low == 24 && number < FIRST_SIMPLE_IN_TWO_BYTES {
                     return Part::Untaken;
                 }
-                self.give_leaf(&stack.top, Major::Simple, number, rest, behind)
+                self.give_leaf(&stack.top, Major::Simple, number, rest, following)
             }
         }
     }
@@ -114,19 +114,19 @@ impl<S> Parser<S> {
         major: Major,
         number: u64,
         rest: &'a [u8],
-        behind: &'a [u8],
+        following: &'a [u8],
     ) -> Part<SinkStop>
     where
         S: Sink<'a>,
         requires kind { IsLeaf major }
-        requires head { IsHead major number rest.now behind.now }
-        requires expected { IsExpectedFor S S.stands S.trusts top.now self.old.sink rest.now }
-        ensures takes { TakesItem S S.stands S.trusts S.holds S.refused result rest.now top.now self.old.sink self.new.sink }
+        requires head { IsHead major number rest.now following.now }
+        requires expected { IsExpectedFor S S.agrees S.trusts top.now self.old.sink rest.now }
+        ensures takes { TakesItem S S.agrees S.trusts S.holds S.refused result rest.now top.now self.old.sink self.new.sink }
         ensures prefix { TakesScalar result rest.now }
         ensures untaken { result ≡ parts.Untaken → ⊥ }
     {
         match self.sink.leaf(top.expected.is_key(), major, number) {
-            Ok(()) => Part::Item(rest.len() - behind.len()),
+            Ok(()) => Part::Item(rest.len() - following.len()),
             Err(_) => Part::Stopped(SinkStop::Memory),
         }
     }
@@ -139,7 +139,7 @@ impl<S> Parser<S> {
         expected: Expected,
         number: u64,
         rest: &'a [u8],
-        behind: &'a [u8],
+        following: &'a [u8],
         stack: &mut Stack<OpenContainer<usize>>,
         cells: &mut [OpenContainer<usize>],
         depth: usize,
@@ -148,18 +148,18 @@ impl<S> Parser<S> {
         S: Sink<'a>,
         requires kind { Counts major expected }
         requires cells { stack.old.height ≤ length cells.old }
-        requires head { IsHead major number rest.now behind.now }
-        requires expected { IsExpectedIn S S.stands S.trusts depth (open_levels Cell stack.old cells.old) self.old.sink rest.now }
+        requires head { IsHead major number rest.now following.now }
+        requires expected { IsExpectedIn S S.agrees S.trusts depth (open_levels Cell stack.old cells.old) self.old.sink rest.now }
         ensures cells { stack.new.height ≤ length cells.new }
-        ensures takes { Takes S S.stands S.trusts S.holds S.refused result depth rest.now (open_levels Cell stack.old cells.old)
+        ensures takes { Takes S S.agrees S.trusts S.holds S.refused result depth rest.now (open_levels Cell stack.old cells.old)
             self.old.sink (open_levels Cell stack.new cells.new) self.new.sink }
         ensures prefix { TakesPrefix result (depth - stack.old.height) stack.old.top rest.now }
         ensures untaken { result ≡ parts.Untaken
             → IsFull depth stack.new.height (length cells.new) }
     {
         if number > 0 {
-            let opened = OpenContainer::counted(expected, number - 1, behind.len());
-            return self.open(major, number, opened, rest, behind, stack, cells, depth);
+            let opened = OpenContainer::counted(expected, number - 1, following.len());
+            return self.open(major, number, opened, rest, following, stack, cells, depth);
         }
         if stack.height >= depth {
             return Part::Untaken;
@@ -169,7 +169,7 @@ impl<S> Parser<S> {
         };
         // It has no cell. As it has no keys, no two are the same.
         match self.sink.end(expected.is_key()) {
-            Ok(None) => Part::Item(rest.len() - behind.len()),
+            Ok(None) => Part::Item(rest.len() - following.len()),
             Ok(Some(_repeat)) => unreachable!(),
             Err(_) => Part::Stopped(SinkStop::Memory),
         }
@@ -183,7 +183,7 @@ impl<S> Parser<S> {
         number: u64,
         opened: OpenContainer<usize>,
         rest: &'a [u8],
-        behind: &'a [u8],
+        following: &'a [u8],
         stack: &mut Stack<OpenContainer<usize>>,
         cells: &mut [OpenContainer<usize>],
         depth: usize,
@@ -192,10 +192,10 @@ impl<S> Parser<S> {
         S: Sink<'a>,
         requires kind { IsContainer major }
         requires cells { stack.old.height ≤ length cells.old }
-        requires opener { IsOpener major number opened rest.now behind.now }
-        requires expected { IsExpectedIn S S.stands S.trusts depth (open_levels Cell stack.old cells.old) self.old.sink rest.now }
+        requires opener { IsOpener major number opened rest.now following.now }
+        requires expected { IsExpectedIn S S.agrees S.trusts depth (open_levels Cell stack.old cells.old) self.old.sink rest.now }
         ensures cells { stack.new.height ≤ length cells.new }
-        ensures takes { Takes S S.stands S.trusts S.holds S.refused result depth rest.now (open_levels Cell stack.old cells.old)
+        ensures takes { Takes S S.agrees S.trusts S.holds S.refused result depth rest.now (open_levels Cell stack.old cells.old)
             self.old.sink (open_levels Cell stack.new cells.new) self.new.sink }
         ensures prefix { TakesPrefix result (depth - stack.old.height) stack.old.top rest.now }
         ensures untaken { result ≡ parts.Untaken
@@ -208,6 +208,6 @@ impl<S> Parser<S> {
             return Part::Stopped(SinkStop::Memory);
         };
         stack.push(cells, opened);
-        Part::Head(rest.len() - behind.len())
+        Part::Head(rest.len() - following.len())
     }
 }

@@ -14,17 +14,17 @@ use crate::skip::past_items;
 use crate::stack::Stack;
 use cbor_head::{Keys, Limits, Reason, Refusal};
 
-/// The refusal of a key that is the same as an earlier one. `behind` bytes of the input follow its map's
+/// The refusal of a key that is the same as an earlier one. `following` bytes of the input follow its map's
 /// head, and `pair` pairs come before the key.
-pub(crate) fn repeated_key(input: &[u8], behind: usize, pair: usize, limits: Limits) -> Refusal
-    requires reported { IsKeyReported limits input.now behind pair }
+pub(crate) fn repeated_key(input: &[u8], following: usize, pair: usize, limits: Limits) -> Refusal
+    requires reported { IsKeyReported limits input.now following pair }
     requires within { length input.now ≤ limits.bytes }
     ensures { (bytes : List ℕ) → input.now ≡ take limits.bytes bytes
         → IsVerdict limits plain bytes (refused result) }
 {
     // The kinds of these keys were judged before.
     let limits = limits.with_keys(Keys::Any);
-    let pairs = &input[input.len() - behind..];
+    let pairs = &input[input.len() - following..];
     let key = past_items(pairs, 2 * pair as u64, limits);
     let rest = past_items(key, 1, limits);
     let at = (input.len() - key.len()) as u64;

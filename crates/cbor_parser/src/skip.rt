@@ -2,7 +2,7 @@
 
 ghost use Rattle.std.specs.Prelude.{◌≡◌, ◌≤◌, ◌^◌, ℕ, true, List, length};
 ghost use Rattle.cbor_head.specs.declared.keys.Keys.TheVariants.{Any};
-ghost use Rattle.cbor_parser.specs.inner.Skip.{anywhere, anything, StandAtStart};
+ghost use Rattle.cbor_parser.specs.inner.Skip.{anywhere, anything, HasItemsAtStart};
 
 use crate::container::Expected;
 use crate::open_container::OpenContainer;
@@ -18,7 +18,7 @@ use std::alloc::AllocError;
 pub(crate) struct Nothing;
 
 impl<'a> Sink<'a> for Nothing {
-    ghost stands = { anywhere Self };
+    ghost agrees = { anywhere Self };
 
     ghost holds = { anything Self };
 
@@ -89,15 +89,15 @@ pub(crate) fn past_items(items: &[u8], count: u64, limits: Limits) -> &[u8]
     requires small { length items.now ≤ 2 ^ 62 }
     requires within { length items.now ≤ limits.bytes }
     requires any { limits.keys ≡ Any }
-    requires items { (behind : List ℕ) × StandAtStart limits.depth items.now count behind }
-    ensures { (behind : List ℕ) → StandAtStart limits.depth items.now count behind
-        → result.now ≡ behind }
+    requires items { (following : List ℕ) × HasItemsAtStart limits.depth items.now count following }
+    ensures { (following : List ℕ) → HasItemsAtStart limits.depth items.now count following
+        → result.now ≡ following }
 {
     let mut rest = items;
     for _ in 0..count {
         let outermost = OpenContainer::counted(Expected::Item, 0, 0);
         match parse(&mut Parser::new(Nothing), rest, outermost, limits) {
-            Ok(behind) => rest = behind,
+            Ok(following) => rest = following,
             // A valid item is not refused, and this sink requests no memory.
             Err(_) => unreachable!(),
         }

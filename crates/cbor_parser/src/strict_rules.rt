@@ -46,7 +46,7 @@ impl<'a> ItemRules<'a> for StrictRules<'a> {
 
     type Error = Refusal;
 
-    ghost stands = { Expect };
+    ghost agrees = { Expect };
 
     ghost ends = { HaveItem };
 

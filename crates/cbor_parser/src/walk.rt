@@ -41,13 +41,13 @@ pub(crate) fn walk<'a, R: ItemRules<'a>>(
 ) -> Result<&'a [u8], WalkStop<'a, R::Stop>>
     requires cells { stack.old.height ≤ length cells.old }
     requires expected { (first : R) × (input : List ℕ)
-        × R.stands first rules.old limits input (open_levels (Cell R.Kept) stack.old cells.old) start.now }
+        × R.agrees first rules.old limits input (open_levels (Cell R.Kept) stack.old cells.old) start.now }
     ensures cells { stack.new.height ≤ length cells.new }
     ensures walked { (first : R) (input : List ℕ)
-        → R.stands first rules.old limits input (open_levels (Cell R.Kept) stack.old cells.old) start.now
+        → R.agrees first rules.old limits input (open_levels (Cell R.Kept) stack.old cells.old) start.now
         → MatchResult result
-        (λ behind. R.passes first rules.new limits input behind.now)
-        (λ stop. StopsAt R R.Kept R.Stop R.stands R.stops R.lacks stop first rules.new limits input
+        (λ following. R.passes first rules.new limits input following.now)
+        (λ stop. StopsAt R R.Kept R.Stop R.agrees R.stops R.lacks stop first rules.new limits input
         (open_levels (Cell R.Kept) stack.new cells.new) (length cells.new)) }
 {
     let mut rest = start;
@@ -94,7 +94,7 @@ fn close<'a, R: ItemRules<'a>>(
     ensures cells { stack.new.height ≤ length cells.now }
     ensures leads { (first : R) (limits : Bounds) (input : List ℕ)
         → IsFilled R R.Kept R.fills R.passes first rules.old limits input (open_levels (Cell R.Kept) stack.old cells.now) rest.now
-        → LeadsTo R R.Kept R.Stop R.stands R.stops R.passes result first rules.new limits input
+        → LeadsTo R R.Kept R.Stop R.agrees R.stops R.passes result first rules.new limits input
         (open_levels (Cell R.Kept) stack.new cells.now) rest.now }
 {
     'levels: while stack.height > 0 {
@@ -125,7 +125,7 @@ fn close_at_break<'a, R: ItemRules<'a>>(
     ensures cells { stack.new.height ≤ length cells.now }
     ensures leads { (first : R) (limits : Bounds) (input : List ℕ)
         → IsFilled R R.Kept R.fills R.passes first rules.old limits input (open_levels (Cell R.Kept) stack.old cells.now) rest.now
-        → LeadsTo R R.Kept R.Stop R.stands R.stops R.passes result first rules.new limits input
+        → LeadsTo R R.Kept R.Stop R.agrees R.stops R.passes result first rules.new limits input
         (open_levels (Cell R.Kept) stack.new cells.now) rest.now }
 {
     close(rules, rest, stack, cells)

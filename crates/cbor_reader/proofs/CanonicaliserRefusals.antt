@@ -2,12 +2,12 @@
 use Rattle.std.proofs.Common.{ℕ, List, length, ap, arith, inl, inr}
 use Rattle.cbor_head.specs.{Prelude.Bounds, Prelude.plain, declared.order.KeyOrder.KeyOrder, declared.reason.Refusal.Refusal}
 use Rattle.theory_verdicts.specs.Readers.{of_verdict, of_reader, of_memory}
-use Rattle.theory_verdicts.{specs.Refusals.StandsWithin, proofs.Accepted.item_within_limit, proofs.Reasons.verdict-reason}
+use Rattle.theory_verdicts.{specs.Refusals.IsWithinInput, proofs.Accepted.item_within_limit, proofs.Reasons.verdict-reason}
 use Rattle.cbor_reader.specs.Canonicalise.{IsRefusal, of_item, canonical_too_long, IsCanonicaliserReason}
 use Rattle.cbor_reader.{specs.WholeItem.unread, specs.WholeItem.trailing, proofs.Headline.valid_item, proofs.Readings.within_at, proofs.Readings.unread_within}
 
 module _ (limits : Bounds) (input : List ℕ) where
-  pub refusal_within : (o : KeyOrder) (f : Refusal) → IsRefusal limits o input f → StandsWithin limits.bytes input f
+  pub refusal_within : (o : KeyOrder) (f : Refusal) → IsRefusal limits o input f → IsWithinInput limits.bytes input f
   refusal_within o f (of_item (unread u g)) = unread_within limits plain input f u
   refusal_within o f (of_item (trailing k a l e)) = within_at limits input f _ k e (omega (arith, a.size, item_within_limit limits plain input a.item a.verdict)) (omega (arith, l))
   refusal_within o f (canonical_too_long s v w l e) = within_at limits input f _ (length input) e (valid_item limits input s v w).fits (omega arith)

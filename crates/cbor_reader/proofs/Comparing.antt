@@ -6,7 +6,7 @@ use Rattle.cbor_head.specs.declared.order.KeyOrder.{KeyOrder, TheVariants.Bytewi
 use Rattle.theory_values.proofs.Sameness.{Same-refl, Same-sym, Same-trans}
 use Rattle.theory_values.proofs.Sound.{IsSound as IsSoundValue, sound}
 use Rattle.theory_values.proofs.Keys.{same_exactly}
-use Rattle.cbor_reader.proofs.Headline.{again, answers_exactly, equal_exactly, valid_item_value}
+use Rattle.cbor_reader.proofs.Headline.{again, results_exactly, equal_exactly, valid_item_value}
 use Rattle.cbor_reader.specs.{Canonicalise.IsCanonicalOf, Comparing.MeanTheSame, Headline.IsValidItem, WholeItem.IsWholeItem}
 use Rattle.cbor_reader.proofs.WholeItems.{becomes, only_item}
 
@@ -26,7 +26,7 @@ module _ (limits : Bounds) (m : limits.bytes ≤ 2 ^ 62) (left right : List ℕ)
   pub encoded_again : (out : List ℕ) → IsEncoded left out → right ≡ out → length right ≤ limits.bytes → IsEncoded right out
   encoded_again out h e l =
       let item : IsEncoded left right = subst (IsEncoded left) (sym e) h in
-      let (s, i, is, _) = (answers_exactly limits Bytewise right right).0 (again limits Bytewise left right m (becomes limits Bytewise left right item l)) in
+      let (s, i, is, _) = (results_exactly limits Bytewise right right).0 (again limits Bytewise left right m (becomes limits Bytewise left right item l)) in
       (s, i, sym e ∙ is)
 
   module _ (same : Bool) (x y : List ℕ) (decides : Decides same (x ≡ y)) (h : IsEncoded left x) (g : IsEncoded right y) where
@@ -64,11 +64,11 @@ meaning_on limits x y z h g =
       same = Same-trans (value_of h.left_item) (value_of g.left_item) (value_of g.right_item) first g.same;
     }
 
-pub meaning_by_answers : (limits others : Bounds) (o : KeyOrder) (x y a b : List ℕ) → others.bytes ≤ 2 ^ 62 → IsWholeItem limits x → IsWholeItem limits y → IsCanonicalOf others o x a → IsCanonicalOf others o y b
+pub meaning_by_results : (limits others : Bounds) (o : KeyOrder) (x y a b : List ℕ) → others.bytes ≤ 2 ^ 62 → IsWholeItem limits x → IsWholeItem limits y → IsCanonicalOf others o x a → IsCanonicalOf others o y b
     → MeanTheSame limits x y ↔ (a ≡ b)
-meaning_by_answers limits others o x y a b l (s, i) (t, j) u v =
-    let (p, f, _, _) = (answers_exactly others o x a).0 u in
-    let (q, g, _, _) = (answers_exactly others o y b).0 v in
+meaning_by_results limits others o x y a b l (s, i) (t, j) u v =
+    let (p, f, _, _) = (results_exactly others o x a).0 u in
+    let (q, g, _, _) = (results_exactly others o y b).0 v in
     let left : IsItem others.depth s x = subst (λ (w : Spelling). IsItem others.depth w x) (only_item others limits x p s f i) f.well_formed in
     let right : IsItem others.depth t y = subst (λ (w : Spelling). IsItem others.depth w y) (only_item others limits y q t g j) g.well_formed in
     let equal = equal_exactly others others o x y a b s t l l u left v right in (

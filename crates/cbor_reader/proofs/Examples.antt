@@ -10,13 +10,13 @@ use Rattle.cbor_head.specs.declared.{reason.Refusal.Refusal, width.Width.TheVari
 use Rattle.theory_values.proofs.{Examples.chunk, Examples.pairs, KindsUnasked.any_complaint, OneVerdict.one_verdict}
 use Rattle.theory_verdicts.specs.Readers.{BeginsWithCanonical}
 use Rattle.cbor_tree_reader.specs.Size.{size}
-use Rattle.cbor_reader.{specs.Canonicalise.IsCanonicalOf, proofs.CutShort.too_long, proofs.OneAnswer.one_canonical, proofs.Headline.answers_exactly}
+use Rattle.cbor_reader.{specs.Canonicalise.IsCanonicalOf, proofs.CutShort.too_long, proofs.OneResult.one_canonical, proofs.Headline.results_exactly}
 
 -- within 256 levels and 2^20 bytes
 item_becomes : (o : KeyOrder) (s : Spelling) (input out : List ℕ) → IsSpelled s → depth s ≤ 256 → spell s ≡ input → length input ≤ 1048576 → ((c : Complaint) → Complains plain 0 s c → ⊥)
     → canonical o (value_of s) ≡ out → length out ≤ 1048576 → IsCanonicalOf (bounds 256 1048576) o input out
 item_becomes o s input out h l e m none f k =
-    (answers_exactly (bounds 256 1048576) o input out).1 (s, record { well_formed = record { spelled = h; within = l; bytes_are = e }; valid = λ c x. none c ((any_complaint (bounds 256 1048576) plain refl s c).0 x); fits = m }, sym f, k)
+    (results_exactly (bounds 256 1048576) o input out).1 (s, record { well_formed = record { spelled = h; within = l; bytes_are = e }; valid = λ c x. none c ((any_complaint (bounds 256 1048576) plain refl s c).0 x); fits = m }, sym f, k)
 
 -- ---- 0, in two bytes
 

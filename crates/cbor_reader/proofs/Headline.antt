@@ -9,8 +9,8 @@ use Rattle.theory_values.proofs.Sound.{IsSound as IsSoundValue, sound}
 use Rattle.theory_values.proofs.{Accepted.accepts_exactly, ReadLaws.one_list, Depth.depth-value_of, Keys.same_exactly}
 use Rattle.theory_values.proofs.{Theorems.canonical_spelled, Theorems.canonical_again, PlainRules.none_plainly}
 use Rattle.theory_verdicts.proofs.{Accepted.item_within_limit, Valid.in_range_of, Valid.valid_of}
-use Rattle.cbor_reader.specs.Headline.{IsValidItem, IsAnsweredBy, HasNoAnswer}
-use Rattle.cbor_reader.{specs.Canonicalise.IsCanonicalOf, specs.Canonicalise.IsRefusal, proofs.OneAnswer.only_memory}
+use Rattle.cbor_reader.specs.Headline.{IsValidItem, HasResult, HasNoResult}
+use Rattle.cbor_reader.{specs.Canonicalise.IsCanonicalOf, specs.Canonicalise.IsRefusal, proofs.OneResult.only_memory}
 
 -- ---- an item at the start
 
@@ -54,9 +54,9 @@ valid_item_value limits input s m i =
 
 -- ---- the result
 
-pub answers_exactly : (limits : Bounds) (o : KeyOrder) (input out : List ℕ)
-    → IsCanonicalOf limits o input out ↔ IsAnsweredBy limits o input out
-answers_exactly limits o input out = (
+pub results_exactly : (limits : Bounds) (o : KeyOrder) (input out : List ℕ)
+    → IsCanonicalOf limits o input out ↔ HasResult limits o input out
+results_exactly limits o input out = (
   (λ a. (a.item, valid_item limits input a.item a.verdict a.whole, a.canonical_bytes, a.fits)),
   (λ h. record { item = h.0; verdict = valid_item_accepted limits input h.0 h.1; whole = h.1.well_formed.bytes_are; canonical_bytes = h.2; fits = h.3 }),
 )
@@ -65,37 +65,37 @@ pub accepts_valid_items : (limits : Bounds) (o : KeyOrder) (input : List ℕ)
     → ((out : List ℕ) × IsCanonicalOf limits o input out) ↔ ((s : Spelling) × IsValidItem limits input s × (length (canonical o (value_of s)) ≤ limits.bytes))
 accepts_valid_items limits o input = (
   (λ (out, a). (a.item, valid_item limits input a.item a.verdict a.whole, subst (λ (b : List ℕ). length b ≤ limits.bytes) a.canonical_bytes a.fits)),
-  (λ (s, i, l). (canonical o (value_of s), (answers_exactly limits o input (canonical o (value_of s))).1 (s, i, refl, l))),
+  (λ (s, i, l). (canonical o (value_of s), (results_exactly limits o input (canonical o (value_of s))).1 (s, i, refl, l))),
 )
 
 -- a valid item is refused only because its canonical bytes are too long, or for memory
 pub refused_too_long : (limits : Bounds) (o : KeyOrder) (input : List ℕ) (f : Refusal)
-    → IsRefusal limits o input f → f.reason ≢ Memory → HasNoAnswer limits o input
+    → IsRefusal limits o input f → f.reason ≢ Memory → HasNoResult limits o input
 refused_too_long limits o input f r h s i =
     elim (cases_lt limits.bytes (length (canonical o (value_of s)))) [
       | inl l ↦ l
-      | inr l ↦ absurd (h (only_memory limits o input (canonical o (value_of s)) f ((answers_exactly limits o input (canonical o (value_of s))).1 (s, i, refl, l)) r))
+      | inr l ↦ absurd (h (only_memory limits o input (canonical o (value_of s)) f ((results_exactly limits o input (canonical o (value_of s))).1 (s, i, refl, l)) r))
     ]
 
 -- the item is the only one that the input is
-answered_item : (limits : Bounds) (o : KeyOrder) (input out : List ℕ) (s : Spelling) (a : IsCanonicalOf limits o input out) → IsItem limits.depth s input → a.item ≡ s
-answered_item limits o input out s a i =
+returned_item : (limits : Bounds) (o : KeyOrder) (input out : List ℕ) (s : Spelling) (a : IsCanonicalOf limits o input out) → IsItem limits.depth s input → a.item ≡ s
+returned_item limits o input out s a i =
     one_list a.item s (valid_item limits input a.item a.verdict a.whole).well_formed.spelled i.spelled (a.whole ∙ sym i.bytes_are)
 
-answered_bytes : (limits : Bounds) (o : KeyOrder) (input out : List ℕ) (s : Spelling) → IsCanonicalOf limits o input out → IsItem limits.depth s input → out ≡ canonical o (value_of s)
-answered_bytes limits o input out s a i = a.canonical_bytes ∙ ap (λ (t : Spelling). canonical o (value_of t)) (answered_item limits o input out s a i)
+returned_bytes : (limits : Bounds) (o : KeyOrder) (input out : List ℕ) (s : Spelling) → IsCanonicalOf limits o input out → IsItem limits.depth s input → out ≡ canonical o (value_of s)
+returned_bytes limits o input out s a i = a.canonical_bytes ∙ ap (λ (t : Spelling). canonical o (value_of t)) (returned_item limits o input out s a i)
 
-answered_value : (limits : Bounds) (o : KeyOrder) (input out : List ℕ) (s : Spelling) → limits.bytes ≤ 2 ^ 62 → IsCanonicalOf limits o input out → IsItem limits.depth s input → IsSoundValue (value_of s)
-answered_value limits o input out s m a i =
+returned_value : (limits : Bounds) (o : KeyOrder) (input out : List ℕ) (s : Spelling) → limits.bytes ≤ 2 ^ 62 → IsCanonicalOf limits o input out → IsItem limits.depth s input → IsSoundValue (value_of s)
+returned_value limits o input out s m a i =
     let here = sound (value_of a.item) (prefix_range limits plain input a.item m a.verdict) (prefix_valid limits input a.item a.verdict) in
-    subst (λ (t : Spelling). IsSoundValue (value_of t)) (answered_item limits o input out s a i) here
+    subst (λ (t : Spelling). IsSoundValue (value_of t)) (returned_item limits o input out s a i) here
 
 pub equal_exactly : (limits others : Bounds) (o : KeyOrder) (x y a b : List ℕ) (s t : Spelling) → limits.bytes ≤ 2 ^ 62 → others.bytes ≤ 2 ^ 62
     → IsCanonicalOf limits o x a → IsItem limits.depth s x → IsCanonicalOf others o y b → IsItem others.depth t y → (a ≡ b) ↔ Same (value_of s) (value_of t)
 equal_exactly limits others o x y a b s t f g h i k j =
-    let left = answered_bytes limits o x a s h i in
-    let right = answered_bytes others o y b t k j in
-    let same = same_exactly o (value_of s) (value_of t) (answered_value limits o x a s f h i) (answered_value others o y b t g k j) in
+    let left = returned_bytes limits o x a s h i in
+    let right = returned_bytes others o y b t k j in
+    let same = same_exactly o (value_of s) (value_of t) (returned_value limits o x a s f h i) (returned_value others o y b t g k j) in
     ((λ q. same.1 (sym left ∙ q ∙ right)), (λ q. left ∙ same.0 q ∙ sym right))
 
 -- a result is its own result
@@ -112,4 +112,4 @@ again limits o input out m a =
       valid = λ c x. elim x [ inl y ↦ none_plainly o c.end s 0 k.spelled (λ e z l. k.clean 0 e z) c y (omega arith) | inr y ↦ none_of_kinds s (basic_same (value_of s) v k.same (prefix_keys limits input a.item y.1 a.verdict)) 0 c y.2 ];
       fits = a.fits;
     } in
-    (answers_exactly limits o out out).1 (s, i, a.canonical_bytes ∙ sym w.2, a.fits)
+    (results_exactly limits o out out).1 (s, i, a.canonical_bytes ∙ sym w.2, a.fits)

@@ -7,9 +7,9 @@ use Rattle.cbor_builder.specs.Built.{Built, built, IsInString, TakesPart}
 use Rattle.theory_verdicts.specs.{Levels.Level, Levels.settle, Reading.string_major, Reading.string_value}
 use Rattle.cbor_parser.specs.Sink.{key_expected, Completes, BeginsString, IsChunkExpected, GrowsString, EndsString}
 use Rattle.cbor_parser.proofs.CanonGiven.{string-bytes, string-opens}
-use Rattle.cbor_reader.proofs.KeysGiven.{stands-by, with-kept, with-left}
+use Rattle.cbor_reader.proofs.KeysGiven.{agrees-by, with-kept, with-left}
 use Rattle.cbor_reader.proofs.KeysKept.{Some, in_key-is, item-kept, some-kept, value-takes}
-use Rattle.cbor_reader.specs.inner.KeyBytes.{in_key, kept, kept_all, inside, is_kept, behind_item, with_item, keys_stand, keys_hold}
+use Rattle.cbor_reader.specs.inner.KeyBytes.{in_key, kept, kept_all, inside, is_kept, after_item, with_item, keys_agree, keys_hold}
 use Rattle.cbor_reader.specs.declared.key_bytes.KeyBytes.{KeyBytes}
 
 -- whether it is stored, in these containers
@@ -22,17 +22,17 @@ content_in o t content ls b = kept b (a_string (string_major t) content) (kept_a
 
 holds-by : (t : Bool) (content : List ℕ) (old new start : KeyBytes) (ls : List Level) (b : Bool) → in_key ls ≡ b → new.builder.order ≡ old.builder.order → new.builder.open_levels ≡ content_in old.builder.order t content ls b → new.inside ≡ inside ls
     → keys_hold start new ls t content
-holds-by t content old new start ls b is same stands count =
-    (stands ∙ ap (content_in old.builder.order t content ls) (sym is) ∙ ap (λ (o : KeyOrder). content_in o t content ls (in_key ls)) (sym same), count)
+holds-by t content old new start ls b is same agrees count =
+    (agrees ∙ ap (content_in old.builder.order t content ls) (sym is) ∙ ap (λ (o : KeyOrder). content_in o t content ls (in_key ls)) (sym same), count)
 
 -- ---- its first chunk is expected
 
-pub begins-kept : (k t : Bool) (old new : KeyBytes) → is_kept old.inside k ≡ true → new.builder ≡ built old.builder.order (opened (string_major t) 0 ∷ old.builder.open_levels) → new.inside ≡ old.inside → BeginsString KeyBytes keys_stand keys_hold k t old new
+pub begins-kept : (k t : Bool) (old new : KeyBytes) → is_kept old.inside k ≡ true → new.builder ≡ built old.builder.order (opened (string_major t) 0 ∷ old.builder.open_levels) → new.inside ≡ old.inside → BeginsString KeyBytes keys_agree keys_hold k t old new
 begins-kept k t old new keeps is stays start ls (at, reported) =
     holds-by t [] old new start ls true (here k old ls at.1 reported ∙ keeps) (ap (λ (x : Built). x.order) is)
     (ap (λ (x : Built). x.open_levels) is ∙ ap₂ (λ (c : Open) (os : List Open). c ∷ os) (string-opens t) at.0) (stays ∙ at.1)
 
-pub begins-left : (k t : Bool) (old : KeyBytes) → is_kept old.inside k ≡ false → BeginsString KeyBytes keys_stand keys_hold k t old old
+pub begins-left : (k t : Bool) (old : KeyBytes) → is_kept old.inside k ≡ false → BeginsString KeyBytes keys_agree keys_hold k t old old
 begins-left k t old lacks start ls (at, reported) = holds-by t [] old old start ls false (here k old ls at.1 reported ∙ lacks) refl at.0 at.1
 
 -- ---- a chunk
@@ -69,25 +69,25 @@ bytes-of : (o : KeyOrder) (t : Bool) (content : List ℕ) (s : Spelling) → val
 bytes-of o t content s e = sym (string-bytes o t content) ∙ ap (canonical o) (sym e)
 
 settled : (k : Bool) (start old new : KeyBytes) (d : ℕ) (ls : List Level) (s : Spelling) → Completes d ls s → old.inside ≡ inside ls → k ≡ key_expected ls → new.builder.order ≡ old.builder.order
-    → new.builder.open_levels ≡ with_item old.inside k (canonical old.builder.order (value_of s)) (kept_all old.builder.order ls) → new.inside ≡ old.inside → keys_stand start new (settle ls s)
-settled k start old new d ls s done count reported same stands stays =
+    → new.builder.open_levels ≡ with_item old.inside k (canonical old.builder.order (value_of s)) (kept_all old.builder.order ls) → new.inside ≡ old.inside → keys_agree start new (settle ls s)
+settled k start old new d ls s done count reported same agrees stays =
     let o = old.builder.order in
-    stands-by o new.builder.order _ new.builder.open_levels _ new.inside (settle ls s) same (stands ∙ (λ i. with_item (count i) (reported i) (canonical o (value_of s)) (kept_all o ls))) (stays ∙ count)
+    agrees-by o new.builder.order _ new.builder.open_levels _ new.inside (settle ls s) same (agrees ∙ (λ i. with_item (count i) (reported i) (canonical o (value_of s)) (kept_all o ls))) (stays ∙ count)
     (item-kept o d ls s done.levels done.taken (omega (arith, done.short)))
 
 pub ends-kept : (k t : Bool) (old new : KeyBytes) (mid : Built) → is_kept old.inside k ≡ true → mid ≡ built old.builder.order (close old.builder.order old.builder.open_levels)
-    → new.builder ≡ built mid.order (behind_item old.inside mid.open_levels) → new.inside ≡ old.inside → EndsString KeyBytes keys_stand keys_hold k t old new
-ends-kept k t old new mid keeps is behind stays start d ls content s at reported done e =
+    → new.builder ≡ built mid.order (after_item old.inside mid.open_levels) → new.inside ≡ old.inside → EndsString KeyBytes keys_agree keys_hold k t old new
+ends-kept k t old new mid keeps is following stays start d ls content s at reported done e =
     let o = old.builder.order in
     let os = kept_all o ls in
     let kind = here k old ls at.1 reported ∙ keeps in
-    settled k start old new d ls s done at.1 reported (ap (λ (x : Built). x.order) behind ∙ ap (λ (x : Built). x.order) is)
-    (ap (λ (x : Built). x.open_levels) behind ∙ ap (λ (x : Built). behind_item old.inside x.open_levels) is
-    ∙ ap (λ (xs : List Open). behind_item old.inside (close o xs)) (at.0 ∙ ap (content_in o t content ls) kind)
-    ∙ ap (λ (b : List ℕ). behind_item old.inside (give b os)) (bytes-of o t content s e)
+    settled k start old new d ls s done at.1 reported (ap (λ (x : Built). x.order) following ∙ ap (λ (x : Built). x.order) is)
+    (ap (λ (x : Built). x.open_levels) following ∙ ap (λ (x : Built). after_item old.inside x.open_levels) is
+    ∙ ap (λ (xs : List Open). after_item old.inside (close o xs)) (at.0 ∙ ap (content_in o t content ls) kind)
+    ∙ ap (λ (b : List ℕ). after_item old.inside (give b os)) (bytes-of o t content s e)
     ∙ with-kept old.inside k (canonical o (value_of s)) os keeps) stays
 
-pub ends-left : (k t : Bool) (old : KeyBytes) → is_kept old.inside k ≡ false → EndsString KeyBytes keys_stand keys_hold k t old old
+pub ends-left : (k t : Bool) (old : KeyBytes) → is_kept old.inside k ≡ false → EndsString KeyBytes keys_agree keys_hold k t old old
 ends-left k t old lacks start d ls content s at reported done e =
     let o = old.builder.order in
     let os = kept_all o ls in

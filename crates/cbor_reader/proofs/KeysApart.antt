@@ -6,7 +6,7 @@ use Rattle.theory_values.specs.Parts.{Open, a_map, a_key, a_string, pair}
 use Rattle.cbor_builder.specs.Built.{keys_so_far, AreAllDifferent, AreOpenKeysDifferent}
 use Rattle.theory_verdicts.specs.{Given.level_open, Given.opens, Levels.Level, Reading.string_major}
 use Rattle.cbor_parser.specs.Sink.{FindsNoRepeat}
-use Rattle.cbor_reader.specs.inner.KeyBytes.{in_key, bare_pairs, kept, kept_all, keys_stand, keys_hold}
+use Rattle.cbor_reader.specs.inner.KeyBytes.{in_key, bare_pairs, kept, kept_all, keys_agree, keys_hold}
 use Rattle.cbor_reader.specs.declared.key_bytes.KeyBytes.{KeyBytes}
 
 abbrev pub keys : List Pair → List (List ℕ)
@@ -33,7 +33,7 @@ pub all-apart : (o : KeyOrder) (ls : List Level) → AreOpenKeysDifferent (kept_
 all-apart o [] h = h
 all-apart o (l ∷ ls) h = let apart = kept-apart (in_key ls) (level_open o l) (kept_all o ls) h in (apart.0, all-apart o ls apart.1)
 
-pub no-repeat : (g : KeyBytes) → AreOpenKeysDifferent g.builder.open_levels → FindsNoRepeat KeyBytes keys_stand keys_hold g
+pub no-repeat : (g : KeyBytes) → AreOpenKeysDifferent g.builder.open_levels → FindsNoRepeat KeyBytes keys_agree keys_hold g
 no-repeat g h start ls (inl at) = (g.builder.order, all-apart g.builder.order ls (subst AreOpenKeysDifferent at.0 h))
 no-repeat g h start ls (inr (is_text, content, at)) =
     let o = g.builder.order in

@@ -13,7 +13,7 @@ use Rattle.theory_verdicts.specs.Levels.{IsTaken, Level, a_member, a_value, some
 use Rattle.theory_verdicts.{proofs.Given.settled, specs.Frame.with_all, specs.Frame.with_entries}
 use Rattle.cbor_parser.specs.Sink.{takes_key, key_expected, is_map}
 use Rattle.cbor_parser.proofs.CanonGiven.{opens-take}
-use Rattle.cbor_reader.specs.inner.KeyBytes.{is_open_map, in_key, bare_pairs, bare, kept, kept_all, one_more, inside, is_kept, behind_item, with_item, KeepsAt}
+use Rattle.cbor_reader.specs.inner.KeyBytes.{is_open_map, in_key, bare_pairs, bare, kept, kept_all, one_more, inside, is_kept, after_item, with_item, KeepsAt}
 
 -- ---- the keys of a map
 
@@ -156,7 +156,7 @@ pub may-end : (o : KeyOrder) (c : Open) (ls : List Level) → ((other : Open) (c
 may-end o c ls inner h = kept-ends (in_key ls) (inside ls) c (kept_all o ls) inner (some-kept o ls) h
 
 -- after its end, in containers of which n are open within a key
-pub record IsBehind (o : KeyOrder) (n : ℕ) (k : Bool) (c : Open) (os new : List Open) (m : ℕ) : Type 0 where
+pub record IsAfter (o : KeyOrder) (n : ℕ) (k : Bool) (c : Open) (os new : List Open) (m : ℕ) : Type 0 where
   pub differ : HasNoRepeats c
   pub holds : new ≡ with_item n k (closed o c) os
   pub count : m ≡ n
@@ -167,14 +167,14 @@ outside _ _ b os e = absurd (false≢true e)
 
 -- a map in no key is given up
 pub map-ended : (o : KeyOrder) (t : Bool) (n : ℕ) (k : Bool) (c : Open) (os : List Open) → t ≡ is_kept n k → one_more t n ≡ 0 → is_open_map c ≡ true → HasDistinctKeysSoFar (kept t c os)
-    → IsBehind o n k c os (around (kept t c os)) 0
+    → IsAfter o n k c os (around (kept t c os)) 0
 map-ended o true n k c os is none e h = absurd (omega (arith, none))
 map-ended o false n k (a_map ps) os is none e h = let out = outside n k (closed o (a_map ps)) os is in record { differ = bare-distinct ps h; holds = out.0; count = out.1 }
 map-ended o false n k _ os is none e h = absurd (false≢true e)
 
 -- of an array or a tag outside of keys nothing is stored
 pub other-ended : (o : KeyOrder) (t : Bool) (n : ℕ) (k : Bool) (c : Open) (os : List Open) → t ≡ is_kept n k → one_more t n ≡ 0 → is_open_map c ≡ false → IsInContainer (c ∷ plain [] ∷ [])
-    → IsBehind o n k c os (kept t c os) 0
+    → IsAfter o n k c os (kept t c os) 0
 other-ended o true n k c os is none e h = absurd (omega (arith, none))
 other-ended o false n k (a_map ps) os is none e h = absurd (false≢true (sym e))
 other-ended o false n k (a_key ps q) os is none e h = absurd h
@@ -182,13 +182,13 @@ other-ended o false n k c os is none e h = let out = outside n k (closed o c) os
 
 -- one in a key is a member of what is around it, or the key
 pub inner-ended : (o : KeyOrder) (t : Bool) (n m : ℕ) (k : Bool) (c : Open) (os : List Open) → t ≡ is_kept n k → suc m ≡ one_more t n → HasDistinctKeysSoFar (kept t c os)
-    → IsBehind o n k c os (behind_item m (close o (kept t c os))) m
+    → IsAfter o n k c os (after_item m (close o (kept t c os))) m
 inner-ended o false n m k c os is some h = absurd (omega (arith, some))
 inner-ended o true n m k c os is some h =
     let same : m ≡ n = omega (arith, some) in
     record {
       differ = h;
-      holds = ap (λ (x : ℕ). behind_item x (give (closed o c) os)) same ∙ ap (λ (x : Bool). if x then behind_item n (give (closed o c) os) else os) is;
+      holds = ap (λ (x : ℕ). after_item x (give (closed o c) os)) same ∙ ap (λ (x : Bool). if x then after_item n (give (closed o c) os) else os) is;
       count = same;
     }
 

@@ -8,9 +8,9 @@ pub mod KeyStrings
 pub mod KeysApart
 pub mod KeysGiven
 pub mod KeysKept
-pub mod OnAnswers
-pub mod OneAnswer
-pub mod OwnAnswers
+pub mod OnResults
+pub mod OneResult
+pub mod OwnResults
 pub mod Readings
 pub mod RepeatsReported
 pub mod SequenceLaws

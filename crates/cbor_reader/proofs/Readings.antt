@@ -5,12 +5,12 @@ use Rattle.cbor_head.specs.declared.reason.Reason.TheVariants.{Read, Memory, Tru
 use Rattle.cbor_head.specs.declared.{keys.Keys.TheVariants.IntegersAndTexts, reason.Reason.Reason, reason.Refusal.Refusal}
 use Rattle.theory_verdicts.specs.Readers.{IsRead, IsReadAs, IsUnread, of_verdict, of_reader, of_memory}
 use Rattle.theory_verdicts.proofs.Accepted.{one_item, one_refusal, not_both, verdict_only}
-use Rattle.theory_verdicts.{specs.Refusals.StandsWithin, proofs.Within.longest_within, proofs.Within.verdict_within}
+use Rattle.theory_verdicts.{specs.Refusals.IsWithinInput, proofs.Within.longest_within, proofs.Within.verdict_within}
 use Rattle.cbor_reader.proofs.Sequences.{is_accepted, verdict_of, splits}
 use Rattle.cbor_reader.specs.Sequence.{IsAccepted}
 
-pub within_at : (limits : Bounds) (input : List ℕ) (f : Refusal) (x : Reason) (k : ℕ) → f ≡ refusal x k k → k ≤ limits.bytes → k ≤ length input → StandsWithin limits.bytes input f
-within_at limits input f x k e l m = subst (StandsWithin limits.bytes input) (sym e) (record { by_read = omega arith; in_limit = l; in_input = m })
+pub within_at : (limits : Bounds) (input : List ℕ) (f : Refusal) (x : Reason) (k : ℕ) → f ≡ refusal x k k → k ≤ limits.bytes → k ≤ length input → IsWithinInput limits.bytes input f
+within_at limits input f x k e l m = subst (IsWithinInput limits.bytes input) (sym e) (record { by_read = omega arith; in_limit = l; in_input = m })
 
 -- ---- one input
 
@@ -24,7 +24,7 @@ module _ (limits : Bounds) (r : Rules) (input : List ℕ) where
   one_unread f g u v a b c d = one_refusal limits r input f g (verdict_only limits r input f u a b) (verdict_only limits r input g v c d)
 
   -- the verdict, or a failure of the reader or of memory
-  reported_by : (f : Refusal) → IsUnread limits r input f → IsVerdict limits r input (refused f) ⊎ (((f.reason ≡ Read) ⊎ (f.reason ≡ Memory)) × StandsWithin limits.bytes input f)
+  reported_by : (f : Refusal) → IsUnread limits r input f → IsVerdict limits r input (refused f) ⊎ (((f.reason ≡ Read) ⊎ (f.reason ≡ Memory)) × IsWithinInput limits.bytes input f)
   reported_by f (of_verdict w) = inl w
   reported_by f (of_reader is w) =
       let there = verdict_within limits (take f.read input) r (refusal Truncated f.read f.read) w in
@@ -33,7 +33,7 @@ module _ (limits : Bounds) (r : Rules) (input : List ℕ) where
       let w = longest_within limits input p l in
       inr (inr (ap (λ (g : Refusal). g.reason) is), within_at limits input f Memory f.read is (omega (arith, m, w.0)) (omega (arith, m, w.1)))
 
-  pub unread_within : (f : Refusal) → IsUnread limits r input f → StandsWithin limits.bytes input f
+  pub unread_within : (f : Refusal) → IsUnread limits r input f → IsWithinInput limits.bytes input f
   unread_within f u = elim (reported_by f u) [ inl w ↦ verdict_within limits input r f w | inr h ↦ h.1 ]
 
   pub read_or_unread : (n : ℕ) (f : Refusal) → IsRead limits r input n → IsUnread limits r input f → (f.reason ≡ Read) ⊎ (f.reason ≡ Memory)

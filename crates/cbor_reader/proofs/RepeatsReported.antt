@@ -11,7 +11,7 @@ use Rattle.theory_verdicts.specs.{Levels.Level, Reading.string_major}
 use Rattle.cbor_parser.specs.Sink.{FindsRepeat, IsKeyless, Repeats}
 use Rattle.cbor_parser.proofs.CanonRepeats.{around-reported, full-reported, keyless-distinct}
 use Rattle.cbor_reader.proofs.KeysApart.{bare-keys, waiting-keys, all-apart}
-use Rattle.cbor_reader.specs.inner.KeyBytes.{is_open_map, one_more, inside, in_key, bare_pairs, kept, kept_all, keys_stand, keys_hold}
+use Rattle.cbor_reader.specs.inner.KeyBytes.{is_open_map, one_more, inside, in_key, bare_pairs, kept, kept_all, keys_agree, keys_hold}
 use Rattle.cbor_reader.{proofs.KeysGiven.full-at, specs.declared.key_bytes.KeyBytes.KeyBytes}
 
 -- ---- by the keys that are stored
@@ -65,14 +65,14 @@ module _ (g : KeyBytes) (repeat : Repeat) (h : IsRepeatReported g.builder.open_l
   abbrev in-keys : List Open → Type 0
   in-keys os = IsRepeatReported os repeat.outside repeat.pair
 
-  pub keys-find : FindsRepeat KeyBytes keys_stand keys_hold g repeat
+  pub keys-find : FindsRepeat KeyBytes keys_agree keys_hold g repeat
   keys-find start ls (inl at) = (g.builder.order, all-reported g.builder.order ls repeat.outside repeat.pair (subst in-keys at.0 h))
   keys-find start ls (inr (is_text, content, at)) =
       let o = g.builder.order in
       let c = a_string (string_major is_text) content in
       (o, around-reported c (opens o ls) repeat.outside repeat.pair refl (within-reported o ls c repeat.outside repeat.pair (subst in-keys at.0 h)))
 
-  pub keys-repeat : (HasDistinctKeysSoFar g.builder.open_levels → ⊥) → (t : Bool) → (0 < g.inside) ⊎ (t ≡ true) → Repeats KeyBytes keys_stand false t g repeat
+  pub keys-repeat : (HasDistinctKeysSoFar g.builder.open_levels → ⊥) → (t : Bool) → (0 < g.inside) ⊎ (t ≡ true) → Repeats KeyBytes keys_agree false t g repeat
   keys-repeat differ t within start d ls s fills full =
       let o = g.builder.order in
       let (at, kind) = full-at t d start g ls s fills full in

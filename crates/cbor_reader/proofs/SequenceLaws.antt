@@ -54,33 +54,33 @@ one_more r (g ∷ gs) s h = (h.0, one_more r gs s h.1)
 
 module _ (limits : Bounds) (r : Rules) where
   -- after it no item is accepted
-  beginning : (items others : List Spelling) (rest behind : List ℕ) (f : Refusal) → AllByRecursion (IsAccepted limits r) items → AllByRecursion (IsAccepted limits r) others
-      → sequence_bytes items ++ rest ≡ sequence_bytes others ++ behind → IsVerdict limits r rest (refused f) → (more : List Spelling) × (others ++ more ≡ items)
-  beginning items [] rest behind f h k e w = (items, refl)
-  beginning [] (t ∷ ts) rest behind f h k e w = absurd (not_refused limits r t (sequence_bytes ts ++ behind) rest f k.0 (sym (append_assoc (spell t) (sequence_bytes ts) behind) ∙ sym e) w)
-  beginning (s ∷ ss) (t ∷ ts) rest behind f h k e w =
-      let u = unique s t h.0.well_formed.spelled k.0.well_formed.spelled (sequence_bytes ss ++ rest) (sequence_bytes ts ++ behind)
-      (sym (append_assoc (spell s) (sequence_bytes ss) rest) ∙ e ∙ append_assoc (spell t) (sequence_bytes ts) behind) in
-      let (more, is) = beginning ss ts rest behind f h.1 k.1 u.1 w in
+  beginning : (items others : List Spelling) (rest following : List ℕ) (f : Refusal) → AllByRecursion (IsAccepted limits r) items → AllByRecursion (IsAccepted limits r) others
+      → sequence_bytes items ++ rest ≡ sequence_bytes others ++ following → IsVerdict limits r rest (refused f) → (more : List Spelling) × (others ++ more ≡ items)
+  beginning items [] rest following f h k e w = (items, refl)
+  beginning [] (t ∷ ts) rest following f h k e w = absurd (not_refused limits r t (sequence_bytes ts ++ following) rest f k.0 (sym (append_assoc (spell t) (sequence_bytes ts) following) ∙ sym e) w)
+  beginning (s ∷ ss) (t ∷ ts) rest following f h k e w =
+      let u = unique s t h.0.well_formed.spelled k.0.well_formed.spelled (sequence_bytes ss ++ rest) (sequence_bytes ts ++ following)
+      (sym (append_assoc (spell s) (sequence_bytes ss) rest) ∙ e ∙ append_assoc (spell t) (sequence_bytes ts) following) in
+      let (more, is) = beginning ss ts rest following f h.1 k.1 u.1 w in
       (more, ap (λ (x : Spelling). x ∷ (ts ++ more)) (sym u.0) ∙ ap (λ (xs : List Spelling). s ∷ xs) is)
 
   pub longest_by : (input : List ℕ) (items : List Spelling) (rest : List ℕ) (f : Refusal) → StartsWithItems limits r input items rest → IsVerdict limits r rest (refused f) → IsLongestSequence limits r input items rest
-  longest_by input items rest f h w = record { starts = h; longest = λ others behind k. beginning items others rest behind f h.each k.each (h.bytes ∙ sym k.bytes) w }
+  longest_by input items rest f h w = record { starts = h; longest = λ others following k. beginning items others rest following f h.each k.each (h.bytes ∙ sym k.bytes) w }
 
   -- nothing follows what ends where it ends
-  same_left : (items : List Spelling) (rest behind : List ℕ) → sequence_bytes items ++ rest ≡ sequence_bytes items ++ behind → AllByRecursion (IsAccepted limits r) items → rest ≡ behind
-  same_left [] rest behind e h = e
-  same_left (s ∷ ss) rest behind e h =
-      same_left ss rest behind (unique s s h.0.well_formed.spelled h.0.well_formed.spelled (sequence_bytes ss ++ rest) (sequence_bytes ss ++ behind)
-      (sym (append_assoc (spell s) (sequence_bytes ss) rest) ∙ e ∙ append_assoc (spell s) (sequence_bytes ss) behind)).1 h.1
+  same_left : (items : List Spelling) (rest following : List ℕ) → sequence_bytes items ++ rest ≡ sequence_bytes items ++ following → AllByRecursion (IsAccepted limits r) items → rest ≡ following
+  same_left [] rest following e h = e
+  same_left (s ∷ ss) rest following e h =
+      same_left ss rest following (unique s s h.0.well_formed.spelled h.0.well_formed.spelled (sequence_bytes ss ++ rest) (sequence_bytes ss ++ following)
+      (sym (append_assoc (spell s) (sequence_bytes ss) rest) ∙ e ∙ append_assoc (spell s) (sequence_bytes ss) following)).1 h.1
 
-  pub one_longest : (input rest behind : List ℕ) (items others : List Spelling) → IsLongestSequence limits r input items rest → IsLongestSequence limits r input others behind → (items ≡ others) × (rest ≡ behind)
-  one_longest input rest behind items others a b =
-      let x = a.longest others behind b.starts in
+  pub one_longest : (input rest following : List ℕ) (items others : List Spelling) → IsLongestSequence limits r input items rest → IsLongestSequence limits r input others following → (items ≡ others) × (rest ≡ following)
+  one_longest input rest following items others a b =
+      let x = a.longest others following b.starts in
       let y = b.longest items rest a.starts in
       let none : y.0 ≡ [] = nil_from_length y.0 (omega (arith, ap length x.1, ap length y.1, length-append others x.0, length-append items y.0)) in
       let same : items ≡ others = sym (append-nil items) ∙ ap (λ (xs : List Spelling). items ++ xs) (sym none) ∙ y.1 in
-      (same, same_left items rest behind (a.starts.bytes ∙ sym b.starts.bytes ∙ ap (λ (xs : List Spelling). sequence_bytes xs ++ behind) (sym same)) a.starts.each)
+      (same, same_left items rest following (a.starts.bytes ∙ sym b.starts.bytes ∙ ap (λ (xs : List Spelling). sequence_bytes xs ++ following) (sym same)) a.starts.each)
 
 module _ (b : Bounds) (held to : Option (List ℕ)) (input : List ℕ) (given : List Given) (run : HasGiven b held input given) where
   ended_so : IsAtEnd b.bytes held to → EndsBefore b.bytes run.rest

@@ -56,7 +56,7 @@ empty_is_truncated limits r l = truncated limits r (simple 0) (spell (simple 0))
 
 module _ (limits : Bounds) (r : Rules) (input : List ℕ) where
   -- a form error before the first byte of an item is the end of the input
-  break_before : (p behind : List ℕ) (f : Refusal) → take limits.bytes input ≡ p ++ behind → IsFormError limits p behind f → IsBeforeItem f → EndsBefore limits.bytes input
+  break_before : (p following : List ℕ) (f : Refusal) → take limits.bytes input ≡ p ++ following → IsFormError limits p following f → IsBeforeItem f → EndsBefore limits.bytes input
   break_before p [] f e (inl b) (x, y) = absurd (apart (sym x ∙ ap (λ (g : Refusal). g.reason) b.1))
     where
       apart : Truncated ≡ TooLong → ⊥
@@ -100,13 +100,13 @@ module _ (r : Rules) (b : Bounds) where
   refused_so None to f u l h = record { unread = tt; begun = λ x y. tt; taken = tt }
   refused_so (Some input) to f u l h = record { unread = u; begun = begun_so b r input f u h; taken = l }
 
-  pub refused_as : {A : Type 0} → (answer : Option (Result A Refusal)) (from to : Option (List ℕ)) (f : Refusal) → IfSome from (λ input. IsUnread b r input f) → Loses f.read from to
-      → IfRefused answer (λ g. (g ≡ f) × ¬ IsBeforeItem f) → IfRefused answer (IsRefused r b from to)
+  pub refused_as : {A : Type 0} → (outcome : Option (Result A Refusal)) (from to : Option (List ℕ)) (f : Refusal) → IfSome from (λ input. IsUnread b r input f) → Loses f.read from to
+      → IfRefused outcome (λ g. (g ≡ f) × ¬ IsBeforeItem f) → IfRefused outcome (IsRefused r b from to)
   refused_as (Some (Err g)) from to f u l h = subst (IsRefused r b from to) (sym h.0) (refused_so from to f u l h.1)
   refused_as _ from to f u l h = tt
 
 -- what holds of the reader's reason
-pub reason_as : {A : Type 0} → (b : Bounds) (r : Rules) (answer : Option (Result A Refusal)) (f : Refusal) → IsReaderReason b r f.reason → IfRefused answer (λ g. (g ≡ f) × ¬ IsBeforeItem f) → IfRefused answer (λ g. IsReaderReason b r g.reason)
+pub reason_as : {A : Type 0} → (b : Bounds) (r : Rules) (outcome : Option (Result A Refusal)) (f : Refusal) → IsReaderReason b r f.reason → IfRefused outcome (λ g. (g ≡ f) × ¬ IsBeforeItem f) → IfRefused outcome (λ g. IsReaderReason b r g.reason)
 reason_as b r (Some (Err g)) f x h = subst (λ (y : Refusal). IsReaderReason b r y.reason) (sym h.0) x
 reason_as b r _ f x h = tt
 

@@ -24,8 +24,8 @@ view_bounded limits input v count r =
 -- ---- refusals
 
 -- memory was refused when the item had been read
-pub memory_behind : (limits : Bounds) (input : List ℕ) (count : ℕ) (f : Refusal) → IsRead limits plain input count → f ≡ refusal Memory count count → IsUnread limits plain input f
-memory_behind limits input count f a is =
+pub memory_after : (limits : Bounds) (input : List ℕ) (count : ℕ) (f : Refusal) → IsRead limits plain input count → f ≡ refusal Memory count count → IsUnread limits plain input f
+memory_after limits input count f a is =
     let w = a.verdict in
     let size : count ≡ length w.p = a.size ∙ ap length (ap spell w.decides.0 ∙ w.decides.1) in
     let free = prefix-free limits plain w.p w.p [] w.item w.rest count w.starts (sym (append-nil w.p)) (without limits plain w.item (length w.p) w.decides.2) (omega (arith, size)) in

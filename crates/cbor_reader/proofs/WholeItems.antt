@@ -7,8 +7,8 @@ use Rattle.theory_values.proofs.ReadLaws.{one_list}
 use Rattle.theory_verdicts.{specs.Readers.IsRead, specs.Readers.IsReadAs, proofs.Accepted.item_is_whole, proofs.Accepted.one_item}
 use Rattle.cbor_reader.specs.Canonicalise.{IsCanonicalOf, IsRefusal, of_item, canonical_too_long}
 use Rattle.cbor_reader.specs.WholeItem.{IsWholeItem, IsItemRefusal, unread}
-use Rattle.cbor_reader.proofs.Headline.{valid_item, valid_item_accepted, answers_exactly}
-use Rattle.cbor_reader.{specs.Headline.IsValidItem, proofs.ViewPrefixes.memory_behind, proofs.OneAnswer.memory_alone}
+use Rattle.cbor_reader.proofs.Headline.{valid_item, valid_item_accepted, results_exactly}
+use Rattle.cbor_reader.{specs.Headline.IsValidItem, proofs.ViewPrefixes.memory_after, proofs.OneResult.memory_alone}
 
 -- ---- an item that is read
 
@@ -21,12 +21,12 @@ all-of-it limits input size a all =
 pub memory_at_end : (limits : Bounds) (o : KeyOrder) (input : List ℕ) (f : Refusal) → IsWholeItem limits input → f ≡ refusal Memory (length input) (length input) → IsRefusal limits o input f
 memory_at_end limits o input f (s, i) is =
     let a : IsRead limits plain input (length input) = record { item = s; verdict = valid_item_accepted limits input s i; size = ap length (sym i.well_formed.bytes_are) } in
-    of_item (unread (memory_behind limits input (length input) f a is) (λ e. let two : Memory ≡ Read = sym (ap (λ (x : Refusal). x.reason) is) ∙ e in cc two))
+    of_item (unread (memory_after limits input (length input) f a is) (λ e. let two : Memory ≡ Read = sym (ap (λ (x : Refusal). x.reason) is) ∙ e in cc two))
 
 -- ---- within the limit, or past it
 
 pub becomes : (limits : Bounds) (o : KeyOrder) (input out : List ℕ) → (s : Spelling) × IsValidItem limits input s × (out ≡ canonical o (value_of s)) → length out ≤ limits.bytes → IsCanonicalOf limits o input out
-becomes limits o input out h l = (answers_exactly limits o input out).1 (h.0, h.1, h.2, l)
+becomes limits o input out h l = (results_exactly limits o input out).1 (h.0, h.1, h.2, l)
 
 pub grows_too_long : (limits : Bounds) (o : KeyOrder) (input out : List ℕ) (f : Refusal) → (s : Spelling) × IsValidItem limits input s × (out ≡ canonical o (value_of s)) → limits.bytes < length out
     → f ≡ refusal CanonicalTooLong (length input) (length input) → IsRefusal limits o input f

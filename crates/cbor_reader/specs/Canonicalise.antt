@@ -33,7 +33,7 @@ pub data IsRefusal (limits : Bounds) (o : KeyOrder) (input : List ℕ) (f : Refu
 -- how refused memory is reported: at the start of the input; or at its end, if the result is known but could not be copied
 pub data IsMemoryRefusal (limits : Bounds) (o : KeyOrder) (input : List ℕ) (f : Refusal) : Type 0 where
   at_start : f ≡ refusal Memory 0 0 → IsMemoryRefusal limits o input f
-  at_copy : (answer : List ℕ) → IsCanonicalOf limits o input answer → f ≡ refusal Memory (length input) (length input) → IsMemoryRefusal limits o input f
+  at_copy : (outcome : List ℕ) → IsCanonicalOf limits o input outcome → f ≡ refusal Memory (length input) (length input) → IsMemoryRefusal limits o input f
 
 -- the reasons that `canonicalise` returns: 1 to 13, 19 and 20
 abbrev pub IsCanonicaliserReason : Bounds → Reason → Type 0

@@ -11,12 +11,12 @@ pub record IsValidItem (limits : Bounds) (input : List ℕ) (s : Spelling) : Typ
   pub fits : length input ≤ limits.bytes
 
 -- the input is such an item, and out is the canonical bytes of its value, which are within the byte limit too
-abbrev pub IsAnsweredBy : Bounds → KeyOrder → List ℕ → List ℕ → Type 0
-IsAnsweredBy limits o input out = (s : Spelling) × IsValidItem limits input s × (out ≡ canonical o (value_of s)) × (length out ≤ limits.bytes)
+abbrev pub HasResult : Bounds → KeyOrder → List ℕ → List ℕ → Type 0
+HasResult limits o input out = (s : Spelling) × IsValidItem limits input s × (out ≡ canonical o (value_of s)) × (length out ≤ limits.bytes)
 
 -- the input is no such item, or the canonical bytes of its value exceed the byte limit
-abbrev pub HasNoAnswer : Bounds → KeyOrder → List ℕ → Type 0
-HasNoAnswer limits o input = (s : Spelling) → IsValidItem limits input s → limits.bytes < length (canonical o (value_of s))
+abbrev pub HasNoResult : Bounds → KeyOrder → List ℕ → Type 0
+HasNoResult limits o input = (s : Spelling) → IsValidItem limits input s → limits.bytes < length (canonical o (value_of s))
 
 -- each text, and each chunk of one, is UTF-8 (sections 3.1 and 3.2.3)
 abbrev mutual

@@ -25,7 +25,7 @@ pub record StartsWithItems (limits : Bounds) (r : Rules) (input : List ℕ) (ite
 -- the longest such sequence: any other is a prefix of it
 pub record IsLongestSequence (limits : Bounds) (r : Rules) (input : List ℕ) (items : List Spelling) (rest : List ℕ) : Type 0 where
   pub starts : StartsWithItems limits r input items rest
-  pub longest : (others : List Spelling) (behind : List ℕ) → StartsWithItems limits r input others behind → (more : List Spelling) × (others ++ more ≡ items)
+  pub longest : (others : List Spelling) (following : List ℕ) → StartsWithItems limits r input others following → (more : List Spelling) × (others ++ more ≡ items)
 
 -- ---- one call
 
@@ -41,11 +41,11 @@ pub record SequenceView (R : Type 0) : Type 0 where
 
 -- P holds of what is given, if something is
 abbrev pub IfGiven : {A : Type 0} → Option (Result A Refusal) → (A → Type 0) → Type 0
-IfGiven answer P = IfSome answer (λ given. IfOk given P)
+IfGiven outcome P = IfSome outcome (λ given. IfOk given P)
 
 -- P holds of the refusal, if there is one
 abbrev pub IfRefused : {A : Type 0} → Option (Result A Refusal) → (Refusal → Type 0) → Type 0
-IfRefused answer P = IfSome answer (λ given. IfErr given P)
+IfRefused outcome P = IfSome outcome (λ given. IfErr given P)
 
 -- whether a result is the last one: none, or a refusal
 abbrev pub is_last : {A : Type 0} → Option (Result A Refusal) → Bool

@@ -28,11 +28,11 @@ pub fn read_canonical<'a>(
     limits: Limits,
     order: KeyOrder,
 ) -> Result<(CowSlice<'a, u8>, u64), Refusal>
-    ensures accepted { IfOk result (λ answer.
-        IsBuiltPrefix limits order bytes.now (cow_slice_items answer.0) answer.1) }
+    ensures accepted { IfOk result (λ outcome.
+        IsBuiltPrefix limits order bytes.now (cow_slice_items outcome.0) outcome.1) }
     ensures own { (v : Value) → BeginsWithCanonical limits order bytes.now v → IsOk result }
     ensures borrowed { (v : Value) → BeginsWithCanonical limits order bytes.now v
-        → IfOk result (λ answer. IsBorrowedSlice answer.0) }
+        → IfOk result (λ outcome. IsBorrowedSlice outcome.0) }
     ensures refused { IfErr result (λ f. IsUnread limits plain bytes.now f) }
     ensures no_read { IfErr result (λ f. f.reason ≢ reasons.Read) }
     ensures memory { IfErr result ReportsMemoryAtStart }
@@ -50,11 +50,11 @@ pub fn read_canonical_in<'a>(
     limits: Limits,
     order: KeyOrder,
 ) -> Result<(CowSlice<'a, u8>, u64), Refusal>
-    ensures accepted { IfOk result (λ answer.
-        IsBuiltPrefix limits order bytes.now (cow_slice_items answer.0) answer.1) }
+    ensures accepted { IfOk result (λ outcome.
+        IsBuiltPrefix limits order bytes.now (cow_slice_items outcome.0) outcome.1) }
     ensures own { (v : Value) → BeginsWithCanonical limits order bytes.now v → IsOk result }
     ensures borrowed { (v : Value) → BeginsWithCanonical limits order bytes.now v
-        → IfOk result (λ answer. IsBorrowedSlice answer.0) }
+        → IfOk result (λ outcome. IsBorrowedSlice outcome.0) }
     ensures refused { IfErr result (λ f. IsUnread limits plain bytes.now f) }
     ensures no_read { IfErr result (λ f. f.reason ≢ reasons.Read) }
     ensures memory { IfErr result ReportsMemoryAtStart }

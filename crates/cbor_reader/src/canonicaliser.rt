@@ -5,7 +5,7 @@ ghost use Rattle.std.specs.Cow.{cow_slice_items, IsBorrowedSlice};
 ghost use Rattle.cbor_head.specs.declared.reason.Reason.TheVariants as reasons;
 ghost use Rattle.theory_verdicts.specs.Readers.{ReportsMemoryAtStart};
 ghost use Rattle.cbor_reader.specs.Canonicalise.{IsCanonicalOf, IsRefusal, DeterminesItsValue, IsCanonicaliserReason, IsMemoryRefusal};
-ghost use Rattle.cbor_reader.specs.Headline.{IsAnsweredBy, HasNoAnswer};
+ghost use Rattle.cbor_reader.specs.Headline.{HasResult, HasNoResult};
 
 use crate::whole_item::encoded_item;
 use cbor_head::{KeyOrder, Limits, Reason, Refusal};
@@ -27,12 +27,12 @@ pub fn canonicalise(
     limits: Limits,
     order: KeyOrder,
 ) -> Result<Vec<u8>, Refusal>
-    ensures answer { MatchResult result
+    ensures outcome { MatchResult result
         (λ v. IsCanonicalOf limits order bytes.now v.items)
         (λ f. IsRefusal limits order bytes.now f) }
-    ensures accepted { IfOk result (λ v. IsAnsweredBy limits order bytes.now v.items) }
+    ensures accepted { IfOk result (λ v. HasResult limits order bytes.now v.items) }
     ensures refused { IfErr result
-        (λ f. f.reason ≢ reasons.Memory → HasNoAnswer limits order bytes.now) }
+        (λ f. f.reason ≢ reasons.Memory → HasNoResult limits order bytes.now) }
     ensures reason { IfErr result (λ f. IsCanonicaliserReason limits f.reason) }
     ensures memory { IfErr result
         (λ f. f.reason ≡ reasons.Memory → IsMemoryRefusal limits order bytes.now f) }
@@ -51,7 +51,7 @@ pub fn canonicalise_in(
     limits: Limits,
     order: KeyOrder,
 ) -> Result<Vec<u8>, Refusal>
-    ensures answer { MatchResult result
+    ensures outcome { MatchResult result
         (λ v. IsCanonicalOf limits order bytes.now v.items)
         (λ f. IsRefusal limits order bytes.now f) }
     ensures memory { IfErr result
@@ -75,15 +75,15 @@ pub fn canonical_bytes<'a>(
     limits: Limits,
     order: KeyOrder,
 ) -> Result<CowSlice<'a, u8>, Refusal>
-    ensures answer { MatchResult result
+    ensures outcome { MatchResult result
         (λ c. IsCanonicalOf limits order bytes.now (cow_slice_items c))
         (λ f. IsRefusal limits order bytes.now f) }
     ensures own { IsCanonicalOf limits order bytes.now bytes.now → IsOk result }
     ensures borrowed { IsCanonicalOf limits order bytes.now bytes.now
         → IfOk result IsBorrowedSlice }
-    ensures accepted { IfOk result (λ c. IsAnsweredBy limits order bytes.now (cow_slice_items c)) }
+    ensures accepted { IfOk result (λ c. HasResult limits order bytes.now (cow_slice_items c)) }
     ensures refused { IfErr result
-        (λ f. f.reason ≢ reasons.Memory → HasNoAnswer limits order bytes.now) }
+        (λ f. f.reason ≢ reasons.Memory → HasNoResult limits order bytes.now) }
     ensures reason { IfErr result (λ f. IsCanonicaliserReason limits f.reason) }
     ensures memory { IfErr result ReportsMemoryAtStart }
     ensures equal { IfOk result
@@ -103,7 +103,7 @@ pub fn canonical_bytes_in<'a>(
     limits: Limits,
     order: KeyOrder,
 ) -> Result<CowSlice<'a, u8>, Refusal>
-    ensures answer { MatchResult result
+    ensures outcome { MatchResult result
         (λ c. IsCanonicalOf limits order bytes.now (cow_slice_items c))
         (λ f. IsRefusal limits order bytes.now f) }
     ensures own { IsCanonicalOf limits order bytes.now bytes.now → IsOk result }

@@ -42,7 +42,7 @@ pub fn same_meaning(
     right: &[u8],
     limits: Limits,
 ) -> Result<bool, (Side, Refusal)>
-    ensures answer { IfOk result (λ same. IsTrue same ↔ MeanTheSame limits left.now right.now) }
+    ensures outcome { IfOk result (λ same. IsTrue same ↔ MeanTheSame limits left.now right.now) }
     ensures accepted { IfOk result (λ _. IsWholeItem limits left.now
         × IsWholeItem limits right.now) }
     ensures values { IfOk result (λ same. (s t : Spelling)
@@ -79,7 +79,7 @@ pub fn same_meaning_in(
     right: &[u8],
     limits: Limits,
 ) -> Result<bool, (Side, Refusal)>
-    ensures answer { IfOk result (λ same. IsTrue same ↔ MeanTheSame limits left.now right.now) }
+    ensures outcome { IfOk result (λ same. IsTrue same ↔ MeanTheSame limits left.now right.now) }
     ensures accepted { IfOk result (λ _. IsWholeItem limits left.now
         × IsWholeItem limits right.now) }
     ensures values { IfOk result (λ same. (s t : Spelling)

@@ -38,8 +38,8 @@ impl ItemCanonicaliser {
         limits: Limits,
         order: KeyOrder,
     ) -> Result<(&'a [u8], u64), Refusal>
-        ensures accepted { IfOk result (λ answer.
-            IsBuiltPrefix limits order bytes.now answer.0.now answer.1) }
+        ensures accepted { IfOk result (λ outcome.
+            IsBuiltPrefix limits order bytes.now outcome.0.now outcome.1) }
         ensures refused { IfErr result (λ f. IsUnread limits plain bytes.now f) }
         ensures no_read { IfErr result (λ f. f.reason ≢ reasons.Read) }
         ensures memory { IfErr result ReportsMemoryAtStart }

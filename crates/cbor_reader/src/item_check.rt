@@ -5,7 +5,7 @@ ghost use Rattle.cbor_head.specs.Complaint.{plain};
 ghost use Rattle.cbor_head.specs.declared.reason.Reason.TheVariants as reasons;
 ghost use Rattle.theory_verdicts.specs.Levels.{item_expected};
 ghost use Rattle.theory_verdicts.specs.Readers.{IsRead, IsUnread, ReportsMemoryAtStart};
-ghost use Rattle.cbor_reader.specs.inner.KeyBytes.{keys_stand};
+ghost use Rattle.cbor_reader.specs.inner.KeyBytes.{keys_agree};
 
 use crate::canonical_probe::{CanonicalProbe, probe_canonical};
 use crate::key_bytes::KeyBytes;
@@ -59,7 +59,7 @@ fn size_by_keys(
     bytes: &[u8],
     limits: Limits,
 ) -> Result<u64, Refusal>
-    requires none { keys_stand building.old.sink building.old.sink (item_expected []) }
+    requires none { keys_agree building.old.sink building.old.sink (item_expected []) }
     ensures accepted { IfOk result (λ count. IsRead limits plain bytes.now count) }
     ensures refused { IfErr result (λ f. IsUnread limits plain bytes.now f) }
     ensures no_read { IfErr result (λ f. f.reason ≢ reasons.Read) }

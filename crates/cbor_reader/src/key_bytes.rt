@@ -3,7 +3,7 @@
 ghost use Rattle.std.specs.Prelude.{◌≡◌, ◌<◌, [], false, IfOk, IfSome, IsNone, IsTrue, OnOk, OnErr};
 ghost use Rattle.cbor_builder.specs.Built.{built, TakesPart};
 ghost use Rattle.theory_verdicts.specs.Levels.{item_expected};
-ghost use Rattle.cbor_reader.specs.inner.KeyBytes.{is_kept, behind_item, keys_stand, keys_hold, keys_refused};
+ghost use Rattle.cbor_reader.specs.inner.KeyBytes.{is_kept, after_item, keys_agree, keys_hold, keys_refused};
 ghost use Rattle.cbor_reader.specs.declared.key_bytes.KeyBytes.{KeyBytes};
 ghost use Rattle.cbor_parser.specs.Sink.{IsContainerFull, Ends, Repeats};
 
@@ -25,7 +25,7 @@ pub(crate) struct KeyBytes {
 impl KeyBytes {
     /// A sink without keys; allocates nothing.
     pub(crate) fn new(alloc: Global) -> KeyBytes
-        ensures { keys_stand result result (item_expected []) }
+        ensures { keys_agree result result (item_expected []) }
     {
         KeyBytes {
             builder: CanonBuilder::new(alloc, KeyOrder::Bytewise),
@@ -35,7 +35,7 @@ impl KeyBytes {
 
     /// Removes all keys and keeps the memory, whatever was called before.
     pub(crate) fn clear(&mut self)
-        ensures { keys_stand self.new self.new (item_expected []) }
+        ensures { keys_agree self.new self.new (item_expected []) }
     {
         self.builder.clear(KeyOrder::Bytewise);
         self.inside = 0;
@@ -64,7 +64,7 @@ impl KeyBytes {
         requires { self.old.inside ≡ 0 → TakesPart self.old.builder.open_levels }
         ensures inside { self.new.inside ≡ self.old.inside }
         ensures builder { OnOk result (self.old.builder.refused ≡ false → self.new.builder
-            ≡ built self.old.builder.order (behind_item self.old.inside self.old.builder.open_levels)) }
+            ≡ built self.old.builder.order (after_item self.old.inside self.old.builder.open_levels)) }
         ensures memory { OnErr result (IsTrue self.new.builder.refused) }
     {
         if self.inside == 0 {
@@ -77,11 +77,11 @@ impl KeyBytes {
     #[inline(never)]
     fn end_in_key(&mut self, is_map: bool) -> Result<Option<Repeat>, AllocError>
         requires inside { 0 < self.old.inside }
-        requires full { IsContainerFull KeyBytes keys_stand false is_map self.old }
+        requires full { IsContainerFull KeyBytes keys_agree false is_map self.old }
         ensures ends { IfOk result (λ reported. IsNone reported
-            → Ends KeyBytes keys_stand false is_map self.old self.new) }
+            → Ends KeyBytes keys_agree false is_map self.old self.new) }
         ensures repeats { IfOk result (λ reported. IfSome reported
-            (Repeats KeyBytes keys_stand false is_map self.old)) }
+            (Repeats KeyBytes keys_agree false is_map self.old)) }
         ensures memory { OnErr result (IsTrue self.new.builder.refused) }
     {
         if let Some(repeat) = self.builder.end_if_distinct()? {
@@ -94,7 +94,7 @@ impl KeyBytes {
 }
 
 impl<'a> Sink<'a> for KeyBytes {
-    ghost stands = { keys_stand };
+    ghost agrees = { keys_agree };
 
     ghost holds = { keys_hold };
 

@@ -15,15 +15,15 @@ ghost use Rattle.cbor_head.specs.declared.reason.Reason.TheVariants.{Memory, Tru
 ghost use Rattle.theory_values.specs.StrictReasons.{IsStrictReason};
 ghost use Rattle.cbor_reader.specs.Canonicalise.{IsCanonicalOf, IsRefusal};
 ghost use Rattle.cbor_reader.specs.Comparing.{MeanTheSame};
-ghost use Rattle.cbor_reader.specs.Headline.{IsValidItem, IsAnsweredBy, HasNoAnswer, HasValidTexts};
+ghost use Rattle.cbor_reader.specs.Headline.{IsValidItem, HasResult, HasNoResult, HasValidTexts};
 ghost use Rattle.theory_verdicts.specs.Readers.{BeginsWithCanonical, IsRead, IsReadAs, IsUnread};
-ghost use Rattle.theory_verdicts.specs.Refusals.{StandsWithin};
+ghost use Rattle.theory_verdicts.specs.Refusals.{IsWithinInput};
 ghost use Rattle.cbor_tree_reader.specs.Size.{size};
 ghost use Rattle.cbor_reader.specs.WholeItem.{IsWholeItem, IsItemRefusal};
 ghost use Rattle.cbor_reader.specs.Written.{written};
 
 /// An input has one result, unless memory is refused.
-pub fn one_answer()
+pub fn one_result()
     ensures bytes { (limits : Bounds) (o : KeyOrder) (input x y : List ℕ)
         → IsCanonicalOf limits o input x → IsCanonicalOf limits o input y → x ≡ y }
     ensures refusal { (limits : Bounds) (o : KeyOrder) (input : List ℕ) (f g : Refusal)
@@ -36,22 +36,22 @@ pub fn one_answer()
 /// Canonical bytes are returned exactly for an input that is one well-formed, valid item within the
 /// limits whose canonical bytes are within the byte limit too; and they are the canonical bytes of
 /// its value. Such an input is refused only if memory is refused.
-pub fn answered_are_valid_items()
+pub fn inputs_with_results_are_valid_items()
     ensures accepted { (limits : Bounds) (o : KeyOrder) (input : List ℕ)
         → ((out : List ℕ) × IsCanonicalOf limits o input out)
         ↔ ((s : Spelling) × IsValidItem limits input s × (length (canonical o (value_of s)) ≤ limits.bytes)) }
-    ensures answer { (limits : Bounds) (o : KeyOrder) (input out : List ℕ)
-        → IsCanonicalOf limits o input out ↔ IsAnsweredBy limits o input out }
+    ensures outcome { (limits : Bounds) (o : KeyOrder) (input out : List ℕ)
+        → IsCanonicalOf limits o input out ↔ HasResult limits o input out }
     ensures refused { (limits : Bounds) (o : KeyOrder) (input : List ℕ) (f : Refusal)
-        → IsRefusal limits o input f → f.reason ≢ Memory → HasNoAnswer limits o input }
+        → IsRefusal limits o input f → f.reason ≢ Memory → HasNoResult limits o input }
 {}
 
 /// The result for an input is the encoding of its tree. If `read_tree` reads all of it as a value, the
 /// result is the canonical bytes of this value, if they are within the limit; if they are longer, or
 /// bytes follow the item, that is the refusal; and what `read_tree` refuses, except for a failure of
 /// the reader, has the same refusal here.
-pub fn answers_are_encoded_trees()
-    ensures answer { (limits : Bounds) (o : KeyOrder) (input out : List ℕ) (v : Value)
+pub fn results_are_encoded_trees()
+    ensures outcome { (limits : Bounds) (o : KeyOrder) (input out : List ℕ) (v : Value)
         → IsReadAs limits plain input v (length input)
         → IsCanonicalOf limits o input out ↔ ((out ≡ canonical o v) × (length out ≤ limits.bytes)) }
     ensures too_long { (limits : Bounds) (o : KeyOrder) (input : List ℕ) (v : Value)
@@ -94,7 +94,7 @@ pub fn valid_items()
 
 /// Two accepted inputs get equal results in one order, within any limits, exactly if they are items of
 /// the same value.
-pub fn equal_answers_of_same_values()
+pub fn equal_results_of_same_values()
     ensures { (limits others : Bounds) (o : KeyOrder) (x y a b : List ℕ) (s t : Spelling)
         → limits.bytes ≤ 2 ^ 62 → others.bytes ≤ 2 ^ 62
         → IsCanonicalOf limits o x a → IsItem limits.depth s x
@@ -103,13 +103,13 @@ pub fn equal_answers_of_same_values()
 {}
 
 /// A result, given again as input in the same order and within the same limits, is its own result.
-pub fn answer_again_is_itself()
+pub fn results_are_their_own_results()
     ensures { (limits : Bounds) (o : KeyOrder) (input out : List ℕ) → limits.bytes ≤ 2 ^ 62
         → IsCanonicalOf limits o input out → IsCanonicalOf limits o out out }
 {}
 
 /// An input is its own result exactly if the strict verdict in this order accepts it whole.
-pub fn own_answers_are_strictly_accepted()
+pub fn own_results_are_strictly_accepted()
     ensures { (limits : Bounds) (o : KeyOrder) (input : List ℕ) → limits.bytes ≤ 2 ^ 62
         → IsCanonicalOf limits o input input
         ↔ ((s : Spelling) × IsVerdict limits (strict o) input (accepted s) × (spell s ≡ input)) }
@@ -202,22 +202,22 @@ pub fn wider_limits_accept_as_much()
 /// The result for a prefix of an input is the result for the input, unless the prefix ends within the
 /// item.
 pub fn prefixes_decide()
-    ensures accepted { (limits : Bounds) (r : Rules) (prefix behind : List ℕ) (s : Spelling)
-        → IsVerdict limits r prefix (accepted s) → IsVerdict limits r (prefix ++ behind) (accepted s) }
-    ensures refused { (limits : Bounds) (r : Rules) (prefix behind : List ℕ) (f : Refusal)
+    ensures accepted { (limits : Bounds) (r : Rules) (prefix following : List ℕ) (s : Spelling)
+        → IsVerdict limits r prefix (accepted s) → IsVerdict limits r (prefix ++ following) (accepted s) }
+    ensures refused { (limits : Bounds) (r : Rules) (prefix following : List ℕ) (f : Refusal)
         → IsVerdict limits r prefix (refused f) → f.reason ≢ Truncated
-        → IsVerdict limits r (prefix ++ behind) (refused f) }
+        → IsVerdict limits r (prefix ++ following) (refused f) }
 {}
 
 /// A refusal's offset is at most the number of bytes read, which is at most the limit and at most
 /// the length of the input.
-pub fn refusals_stand_within_the_input()
+pub fn refusals_are_within_the_input()
     ensures verdict { (limits : Bounds) (r : Rules) (input : List ℕ) (f : Refusal)
-        → IsVerdict limits r input (refused f) → StandsWithin limits.bytes input f }
+        → IsVerdict limits r input (refused f) → IsWithinInput limits.bytes input f }
     ensures unread { (limits : Bounds) (r : Rules) (input : List ℕ) (f : Refusal)
-        → IsUnread limits r input f → StandsWithin limits.bytes input f }
-    ensures answer { (limits : Bounds) (o : KeyOrder) (input : List ℕ) (f : Refusal)
-        → IsRefusal limits o input f → StandsWithin limits.bytes input f }
+        → IsUnread limits r input f → IsWithinInput limits.bytes input f }
+    ensures outcome { (limits : Bounds) (o : KeyOrder) (input : List ℕ) (f : Refusal)
+        → IsRefusal limits o input f → IsWithinInput limits.bytes input f }
 {}
 
 /// On the inputs that are whole valid items within the limits, having the same meaning is an
@@ -231,7 +231,7 @@ pub fn meaning_is_an_equivalence()
 
 /// Two whole valid items have the same value exactly if their results are equal, in any order of keys
 /// and within any limits for which both have one.
-pub fn same_meaning_of_equal_answers()
+pub fn same_meaning_of_equal_results()
     ensures { (limits others : Bounds) (o : KeyOrder) (x y a b : List ℕ) → others.bytes ≤ 2 ^ 62
         → IsWholeItem limits x → IsWholeItem limits y
         → IsCanonicalOf others o x a → IsCanonicalOf others o y b

@@ -65,9 +65,9 @@ pub fn longest_sequences()
         (given : List Given) (f : Refusal) → (run : HasGiven b held input given)
         → IsRefused r b held to f → f.reason ≢ Read → f.reason ≢ Memory
         → IsVerdict b r run.rest (refused f) }
-    ensures one { (limits : Bounds) (r : Rules) (input rest behind : List ℕ) (items others : List Spelling)
-        → IsLongestSequence limits r input items rest → IsLongestSequence limits r input others behind
-        → (items ≡ others) × (rest ≡ behind) }
+    ensures one { (limits : Bounds) (r : Rules) (input rest following : List ℕ) (items others : List Spelling)
+        → IsLongestSequence limits r input items rest → IsLongestSequence limits r input others following
+        → (items ≡ others) × (rest ≡ following) }
 {}
 
 /// An input ends before an item exactly if the verdict is that it is truncated at 0. With a byte

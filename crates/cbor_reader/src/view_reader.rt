@@ -35,13 +35,13 @@ pub fn read_view<'a>(
     limits: Limits,
     arena: &'a Bump,
 ) -> Result<(View<'a>, u64), Refusal>
-    ensures accepted { IfOk result (λ answer.
-        IsReadAs limits plain bytes.now (view_value answer.0) answer.1) }
-    ensures bounded { IfOk result (λ answer. size (view_value answer.0) ≤ answer.1) }
+    ensures accepted { IfOk result (λ outcome.
+        IsReadAs limits plain bytes.now (view_value outcome.0) outcome.1) }
+    ensures bounded { IfOk result (λ outcome. size (view_value outcome.0) ≤ outcome.1) }
     // `View::to_tree` requires this.
-    ensures depth { IfOk result (λ answer. depth (view_value answer.0) ≤ MAX_DEPTH) }
-    ensures in_range { IfOk result (λ answer. IsInRange (view_value answer.0)) }
-    ensures valid { IfOk result (λ answer. IsValid (view_value answer.0)) }
+    ensures depth { IfOk result (λ outcome. depth (view_value outcome.0) ≤ MAX_DEPTH) }
+    ensures in_range { IfOk result (λ outcome. IsInRange (view_value outcome.0)) }
+    ensures valid { IfOk result (λ outcome. IsValid (view_value outcome.0)) }
     ensures refused { IfErr result (λ f. IsUnread limits plain bytes.now f) }
     ensures reason { IfErr result (λ f. IsReaderReason limits plain f.reason) }
     ensures no_read { IfErr result (λ f. f.reason ≢ reasons.Read) }

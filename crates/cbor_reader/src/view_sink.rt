@@ -9,7 +9,7 @@ ghost use Rattle.cbor_item.specs.OpenValues.{IsWhole};
 ghost use Rattle.theory_verdicts.specs.Levels.{item_expected, item_whole};
 ghost use Rattle.theory_verdicts.specs.Reading.{string_value};
 ghost use Rattle.cbor_reader.specs.declared.view_sink.ViewSink.{ViewSink as ViewSinkView};
-ghost use Rattle.cbor_reader.specs.inner.ViewSinks.{view_stands, view_holds};
+ghost use Rattle.cbor_reader.specs.inner.ViewSinks.{view_agrees, view_holds};
 ghost use Rattle.cbor_item.specs.ViewValue.{view_value, open_levels};
 ghost use Rattle.cbor_parser.specs.Sink.{leaf_value};
 
@@ -34,7 +34,7 @@ pub(crate) struct ViewSink<'a> {
 impl<'a> ViewSink<'a> {
     // A sink that was given nothing.
     pub(crate) fn new(alloc: Global, arena: &'a Bump) -> ViewSink<'a>
-        ensures { view_stands result result (item_expected []) }
+        ensures { view_agrees result result (item_expected []) }
     {
         ViewSink {
             keys: KeyBytes::new(alloc),
@@ -47,7 +47,7 @@ impl<'a> ViewSink<'a> {
     pub(crate) fn finish(self) -> View<'a>
         requires { IsWhole (open_levels self.views) }
         ensures { (start : ViewSinkView) (s : Spelling)
-            → view_stands start self.entry (item_whole s) → view_value result ≡ value_of s }
+            → view_agrees start self.entry (item_whole s) → view_value result ≡ value_of s }
     {
         let ViewSink {
             keys: _,
@@ -59,7 +59,7 @@ impl<'a> ViewSink<'a> {
 }
 
 impl<'a> Sink<'a> for ViewSink<'a> {
-    ghost stands = { view_stands };
+    ghost agrees = { view_agrees };
 
     ghost holds = { view_holds };
 

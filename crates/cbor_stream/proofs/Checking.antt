@@ -8,7 +8,7 @@ use Rattle.cbor_machine.specs.Machine.{KeepsLimits, IfRefused, IsMore, IsEvent, 
 use Rattle.cbor_machine.specs.declared.step.Out.TheVariants as outs
 use Rattle.cbor_machine.proofs.Feeding.{rest_from, split-rest, fits-rest}
 use Rattle.cbor_machine.specs.declared.step.Out.{Out}
-use Rattle.cbor_stream.specs.StrictMachine.{StrictMachineView, StandsAmid, IsStrictAnswer, limits_of}
+use Rattle.cbor_stream.specs.StrictMachine.{StrictMachineView, AgreesAmid, IsStrictResult, limits_of}
 use Rattle.cbor_stream.specs.Said.{Says, EndsAs, Tells}
 use Rattle.cbor_stream.proofs.Said.{says_more, says_done, says_refused}
 use Rattle.cbor_stream.specs.Reasons.{IsStrictReason}
@@ -40,7 +40,7 @@ pub record IsChecked (old now : StrictMachineView) (input : List ℕ) (used : �
   pub bytes : now.machine.bytes ≡ old.machine.bytes
   pub order : now.order ≡ old.order
   pub keys : now.keys ≡ old.keys
-  pub runs : (t : List ℕ) (ms : List Mark) → StandsAmid old t ms → (ns : List Mark) × StandsAmid now (t ++ take used input) ns
+  pub runs : (t : List ℕ) (ms : List Mark) → AgreesAmid old t ms → (ns : List Mark) × AgreesAmid now (t ++ take used input) ns
   pub same : IfSome old.refusal (λ f. (now ≡ old) × (used ≡ 0))
   pub complete : IsComplete old.machine → old.refusal ≡ None → (now ≡ old) × (used ≡ 0)
 
@@ -65,23 +65,23 @@ module _ (old now new : StrictMachineView) (input : List ℕ) (used more : ℕ) 
       (d.0, omega (arith, k.1, d.1))
 
   -- an event
-  pub checked_on : (ev : Event) → ((t : List ℕ) (ms : List Mark) → StandsAmid now t ms → IsStrictAnswer (outs.Event ev) new t (take more (rest_from used input)) ms) → IfSome now.refusal (λ f. (outs.Event ev ≡ outs.Refused f) × (more ≡ 0) × (new ≡ now))
+  pub checked_on : (ev : Event) → ((t : List ℕ) (ms : List Mark) → AgreesAmid now t ms → IsStrictResult (outs.Event ev) new t (take more (rest_from used input)) ms) → IfSome now.refusal (λ f. (outs.Event ev ≡ outs.Refused f) × (more ≡ 0) × (new ≡ now))
       → (IsComplete now.machine → now.refusal ≡ None → (outs.Event ev ≡ outs.Done) × (more ≡ 0)) → IsChecked old new input (used + more)
-  checked_on ev answers again done = record {
+  checked_on ev returned again done = record {
     within = within_so;
     taken = taken_so;
     depth = limits.depth ∙ h.depth;
     bytes = limits.bytes ∙ h.bytes;
     order = order ∙ h.order;
     keys = keys ∙ h.keys;
-    runs = λ t ms k. let r = h.runs t ms k in (r.0 ++ marks_of ev.width ev.kind, subst (λ (x : List ℕ). StandsAmid new x (r.0 ++ marks_of ev.width ev.kind)) (along t) (answers (t ++ take used input) r.0 r.1).1);
+    runs = λ t ms k. let r = h.runs t ms k in (r.0 ++ marks_of ev.width ev.kind, subst (λ (x : List ℕ). AgreesAmid new x (r.0 ++ marks_of ev.width ev.kind)) (along t) (returned (t ++ take used input) r.0 r.1).1);
     same = map_some old.refusal _ (λ f. (new ≡ old) × (used + more ≡ 0)) (λ f k. absurd (cc k.0)) (again_so old now new (outs.Event ev) used more h.same again);
     complete = λ is live. absurd (subst IsEvent (done_so (outs.Event ev) done is live).0 tt);
   }
 
   -- an item at once
-  pub checked_item : ((t : List ℕ) (ms : List Mark) → StandsAmid now t ms → (ns : List Mark) × StandsAmid new (t ++ take more (rest_from used input)) ns) → now.refusal ≡ None → ¬ IsComplete now.machine → IsChecked old new input (used + more)
-  checked_item stands live unfinished = record {
+  pub checked_item : ((t : List ℕ) (ms : List Mark) → AgreesAmid now t ms → (ns : List Mark) × AgreesAmid new (t ++ take more (rest_from used input)) ns) → now.refusal ≡ None → ¬ IsComplete now.machine → IsChecked old new input (used + more)
+  checked_item agrees live unfinished = record {
     within = within_so;
     taken = taken_so;
     depth = limits.depth ∙ h.depth;
@@ -90,8 +90,8 @@ module _ (old now new : StrictMachineView) (input : List ℕ) (used more : ℕ) 
     keys = keys ∙ h.keys;
     runs = λ t ms k.
         let r = h.runs t ms k in
-        let s = stands (t ++ take used input) r.0 r.1 in
-        (s.0, subst (λ (x : List ℕ). StandsAmid new x s.0) (along t) s.1);
+        let s = agrees (t ++ take used input) r.0 r.1 in
+        (s.0, subst (λ (x : List ℕ). AgreesAmid new x s.0) (along t) s.1);
     same = not_refused old.refusal refl h.same;
     complete = λ is l. let k = h.complete is l in absurd (unfinished (subst (λ (v : StrictMachineView). IsComplete v.machine) (sym k.0) is));
   }
@@ -101,19 +101,19 @@ module _ (old now new : StrictMachineView) (input : List ℕ) (used more : ℕ) 
       not_refused (Some f) e x = absurd (let two : Some f ≡ None = sym e ∙ sym (ap (λ (v : StrictMachineView). v.refusal) x.0) ∙ live in cc two)
 
   -- what is no event
-  pub checked_out : (out : Out) → ((ev : Event) → out ≡ outs.Event ev → ⊥) → ((t : List ℕ) (ms : List Mark) → StandsAmid now t ms → IsStrictAnswer out new t (take more (rest_from used input)) ms) → (IsMore out → 0 < wanted new.machine) → IfRefused out (λ f. IsStrictReason now.order f.reason)
-      → (t : List ℕ) (ms : List Mark) → StandsAmid old t ms → Says out new (t ++ take (used + more) input)
-  checked_out out none answers some reason t ms k =
+  pub checked_out : (out : Out) → ((ev : Event) → out ≡ outs.Event ev → ⊥) → ((t : List ℕ) (ms : List Mark) → AgreesAmid now t ms → IsStrictResult out new t (take more (rest_from used input)) ms) → (IsMore out → 0 < wanted new.machine) → IfRefused out (λ f. IsStrictReason now.order f.reason)
+      → (t : List ℕ) (ms : List Mark) → AgreesAmid old t ms → Says out new (t ++ take (used + more) input)
+  checked_out out none returned some reason t ms k =
       let r = h.runs t ms k in
-      subst (Says out new) (along t) (go out none (answers (t ++ take used input) r.0 r.1) some reason)
+      subst (Says out new) (along t) (go out none (returned (t ++ take used input) r.0 r.1) some reason)
     where
-      go : (out : Out) → ((ev : Event) → out ≡ outs.Event ev → ⊥) → IsStrictAnswer out new (t ++ take used input) (take more (rest_from used input)) (h.runs t ms k).0 → (IsMore out → 0 < wanted new.machine) → IfRefused out (λ f. IsStrictReason now.order f.reason)
+      go : (out : Out) → ((ev : Event) → out ≡ outs.Event ev → ⊥) → IsStrictResult out new (t ++ take used input) (take more (rest_from used input)) (h.runs t ms k).0 → (IsMore out → 0 < wanted new.machine) → IfRefused out (λ f. IsStrictReason now.order f.reason)
           → Says out new ((t ++ take used input) ++ take more (rest_from used input))
       go outs.More none a some reason = says_more new ((t ++ take used input) ++ take more (rest_from used input)) (h.runs t ms k).0 a (some tt)
       go (outs.Event ev) none a some reason = none ev refl
       go outs.Done none a some reason =
           let all = sym (append-nil (t ++ take used input)) ∙ ap (λ (x : List ℕ). (t ++ take used input) ++ x) (sym a.0) in
-          says_done new ((t ++ take used input) ++ take more (rest_from used input)) (h.runs t ms k).0 (subst (λ (x : List ℕ). StandsAmid new x (h.runs t ms k).0) all a.2) a.1
+          says_done new ((t ++ take used input) ++ take more (rest_from used input)) (h.runs t ms k).0 (subst (λ (x : List ℕ). AgreesAmid new x (h.runs t ms k).0) all a.2) a.1
       go (outs.Refused f) none a some reason = says_refused new ((t ++ take used input) ++ take more (rest_from used input)) f a (subst (λ (o : KeyOrder). IsStrictReason o f.reason) (sym order) reason)
 
 -- ---- where the bytes end
@@ -130,20 +130,20 @@ module _ (old new : StrictMachineView) (limits : KeepsLimits old.machine new.mac
     all_so = ap (λ (x : List ℕ). t ++ x) none ∙ append-nil t
 
     -- the machine represents what it did before
-    pub stands_more : IsStrictAnswer outs.More new t bs ms → StandsAmid new t ms
-    stands_more a = subst (λ (x : List ℕ). StandsAmid new x ms) all_so a
+    pub agrees_more : IsStrictResult outs.More new t bs ms → AgreesAmid new t ms
+    agrees_more a = subst (λ (x : List ℕ). AgreesAmid new x ms) all_so a
 
-    pub ends_done : (count : ℕ) → count ≡ length t → IsStrictAnswer outs.Done new t bs ms → EndsAs (limits_of old) old.order t (Ok count)
+    pub ends_done : (count : ℕ) → count ≡ length t → IsStrictResult outs.Done new t bs ms → EndsAs (limits_of old) old.order t (Ok count)
     ends_done count size a =
         let s = (says_done new t ms a.2 a.1).1 [] in
         as_old t (Ok count) (subst (λ (n : ℕ). EndsAs (limits_of new) new.order t (Ok n)) (sym size) (subst (λ (x : List ℕ). EndsAs (limits_of new) new.order x (Ok (length t))) (append-nil t) s))
 
-    pub ends_refused : (f : Refusal) → IsStrictAnswer (outs.Refused f) new t bs ms → IsStrictReason old.order f.reason → EndsAs (limits_of old) old.order t (Err f)
+    pub ends_refused : (f : Refusal) → IsStrictResult (outs.Refused f) new t bs ms → IsStrictReason old.order f.reason → EndsAs (limits_of old) old.order t (Err f)
     ends_refused f a reason = λ m.
         let s = says_refused new (t ++ bs) f a (subst (λ (o : KeyOrder). IsStrictReason o f.reason) (sym order) reason) in
         as_old t (Err f) (λ k. subst (λ (x : List ℕ). Tells (limits_of new) new.order x (Err f)) (append-nil (t ++ bs) ∙ all_so) (s.1 k [])) m
 
-    pub ends_more : (f : Refusal) → f ≡ refusal Truncated (length t) (length t) → 0 < wanted new.machine → IsStrictAnswer outs.More new t bs ms → EndsAs (limits_of old) old.order t (Err f)
+    pub ends_more : (f : Refusal) → f ≡ refusal Truncated (length t) (length t) → 0 < wanted new.machine → IsStrictResult outs.More new t bs ms → EndsAs (limits_of old) old.order t (Err f)
     ends_more f is some a = λ m.
-        let s = (says_more new t ms (subst (λ (x : List ℕ). StandsAmid new x ms) all_so a) some).1 in
+        let s = (says_more new t ms (subst (λ (x : List ℕ). AgreesAmid new x ms) all_so a) some).1 in
         as_old t (Err f) (λ k. subst (λ (g : Refusal). Tells (limits_of new) new.order t (Err g)) (sym is) s) m

@@ -12,7 +12,7 @@ use Rattle.theory_verdicts.proofs.KindBytes.{Begins, judged_begins, silent_is_on
 use Rattle.theory_verdicts.{specs.Kinds.KeepsToKinds, specs.Judged.IsJudged, proofs.Heads.cut_head, proofs.Decisions.none_beside, proofs.Places.clear-at}
 use Rattle.theory_verdicts.proofs.Steps.{since}
 use Rattle.cbor_strict.specs.{inner.OpenItems.frames_in, inner.OpenItems.IsItemExpected, declared.open_items.OpenItems.OpenItems}
-use Rattle.cbor_strict.proofs.{OpenBegins.expects, StrictReading.stands_clean, KeptReading.stands_counted, KeptReading.IsCounted}
+use Rattle.cbor_strict.proofs.{OpenBegins.expects, StrictReading.agrees_clean, KeptReading.agrees_counted, KeptReading.IsCounted}
 use Rattle.cbor_stream.{specs.inner.Amid.IsAmid, proofs.Amid.amid_bytes, proofs.Asking.asked_so}
 
 -- no head begins here
@@ -54,7 +54,7 @@ module _ (m : MachineView) (v : OpenItems) (b : Bounds) (t : List ℕ) (ms : Lis
   module _ (q : Place) (at : IsAt b a.began a.before q) where
     quiet : run b.depth (state_at q) a.since ≡ reached (state_of m.inner.position m.inner.frames) []
     quiet =
-        let s = a.led a.before at.marks at.stands.stands in
+        let s = a.led a.before at.marks at.agrees.agrees in
         since b a.began m a.before a.since q [] at (a.depth ∙ at.depth) (s.inner.ran ∙ ap (reached (state_of m.inner.position m.inner.frames)) (sym (append-nil at.marks)))
 
     within : IsWithin b.depth (state_at q) (state_of m.inner.position m.inner.frames) a.since
@@ -85,11 +85,11 @@ module _ (m : MachineView) (v : OpenItems) (b : Bounds) (t : List ℕ) (ms : Lis
       let same : a.before ≡ whole = sym (append-nil a.before) ∙ ap (λ (x : List ℕ). a.before ++ x) (sym e) in
       record {
         keeps = subst (KeepsToKinds b r) same a.keeps;
-        none = subst (λ (x : List ℕ). (s : Spelling) → StartsWith b.depth s x → HasNoneOf (Complains r 0 s) (length x)) same (stands_clean v b a.began a.before a.stands);
+        none = subst (λ (x : List ℕ). (s : Spelling) → StartsWith b.depth s x → HasNoneOf (Complains r 0 s) (length x)) same (agrees_clean v b a.began a.before a.agrees);
       }
 
   fine : IsFine
-  fine = elim a.stands [
+  fine = elim a.agrees [
     | inl h ↦ fine_head h
     | inr (inl h) ↦ fine_rest (nothing (payload false (string_major v.is_text) v.left (frames_in h.fs)) h.at (payload_no_head (string_major v.is_text) v.left (frames_in h.fs) h.some))
     | inr (inr h) ↦ fine_rest (nothing done h.at tt)
@@ -106,4 +106,4 @@ module _ (m : MachineView) (v : OpenItems) (b : Bounds) (t : List ℕ) (ms : Lis
   pub amid_counted : (s : Spelling) → StartsWith b.depth s t → IsCounted v (total ms) s
   amid_counted s i =
       let k : StartsWith b.depth s a.before = (a.since ++ i.0, subst (IsItem b.depth s) (ap (λ (x : List ℕ). x ++ i.0) a.splits ∙ append_assoc a.before a.since i.0) i.1) in
-      subst (λ (n : ℕ). IsCounted v n s) (sym a.between.whole) (stands_counted v b a.began a.before a.stands s k)
+      subst (λ (n : ℕ). IsCounted v n s) (sym a.between.whole) (agrees_counted v b a.began a.before a.agrees s k)

@@ -4,7 +4,7 @@ use Rattle.cbor_head.specs.{declared.event.EventKind.EventKind, Prelude.Bounds, 
 use Rattle.theory_values.specs.FirstBytes.{is_basic}
 use Rattle.theory_automaton.{specs.Automaton.run, specs.Automaton.reached, specs.Trace.Mark, specs.Bytes.IsEventBytes, proofs.Events.no-silent-break}
 use Rattle.cbor_machine.specs.declared.step.Out.TheVariants as outs
-use Rattle.cbor_machine.specs.{State.state_of, Steps.Ran, Steps.IsStep, MachineView.MachineView, NextEvent.StandsBetween, NextKey.IsBasicKind}
+use Rattle.cbor_machine.specs.{State.state_of, Steps.Ran, Steps.IsStep, MachineView.MachineView, NextEvent.AgreesBetween, NextKey.IsBasicKind}
 use Rattle.cbor_machine.proofs.NextEvents.{whole-clear}
 use Rattle.cbor_events.proofs.Keys.{basic-kind}
 use Rattle.theory_verdicts.specs.Kinds.{HasBasicPrefix}
@@ -45,10 +45,10 @@ kind_so ns w kind [] bs are is some basic (inr (inr f)) = basic-kind ns w kind f
 
 module _ (m new : MachineView) (v : OpenItems) (b : Bounds) (t bs : List ℕ) (ms : List Mark) (a : IsAmid m v b t ms) where
   -- a break that is taken leads to an event
-  item_so : (Taken : Type 0) (u : List ℕ) (ns : List Mark) → StandsBetween a.began.machine u ns → Ran m new bs [] → (f : IsFirst Taken a.since bs) → f.byte ≡ 0xff → ⊥
+  item_so : (Taken : Type 0) (u : List ℕ) (ns : List Mark) → AgreesBetween a.began.machine u ns → Ran m new bs [] → (f : IsFirst Taken a.since bs) → f.byte ≡ 0xff → ⊥
   item_so Taken u ns h ran f e =
       let q = state_of m.inner.position m.inner.frames in
-      let s = a.led u ns h.stands in
+      let s = a.led u ns h.agrees in
       let whole = h.whole ∙ ap length (sym (append-nil u) ∙ ap (λ (x : List ℕ). u ++ x) (sym f.none)) in
       no-silent-break m.depth q (state_of new.inner.position new.inner.frames) (whole-clear m.depth (u ++ a.since) q ns s.inner.ran whole)
       (subst (λ (x : List ℕ). run m.depth q x ≡ reached (state_of new.inner.position new.inner.frames) []) (f.alone ∙ ap (λ (n : ℕ). n ∷ []) e) ran.ran)
@@ -58,20 +58,20 @@ module _ (m new : MachineView) (v : OpenItems) (b : Bounds) (t bs : List ℕ) (m
   kind_goes_on ran start asked = prefix_so (Unit {0}) a.since bs (λ f. tt) (a.kind asked) (start asked) (item_so (Unit {0}) a.before ms a.between ran)
 
   -- it is refused
-  pub behind_so : (f : Refusal) → IsStep (outs.Refused f) m new bs → HasStart (m.taken < f.place) (asks_of b.keys v) a.since bs → asks_of b.keys v ≡ true → (u : List ℕ) (ns : List Mark) → StandsBetween a.began.machine u ns → (more : List ℕ)
+  pub after_so : (f : Refusal) → IsStep (outs.Refused f) m new bs → HasStart (m.taken < f.place) (asks_of b.keys v) a.since bs → asks_of b.keys v ≡ true → (u : List ℕ) (ns : List Mark) → AgreesBetween a.began.machine u ns → (more : List ℕ)
       → length u < f.place → (first : ℕ) (rest : List ℕ) → Some (a.since ++ (bs ++ more)) ≡ Some (first ∷ rest) → IsTrue (is_basic (first / 32))
-  behind_so f step start asked u ns h more behind first rest e =
-      let taken = (a.led u ns h.stands).taken in
+  after_so f step start asked u ns h more following first rest e =
+      let taken = (a.led u ns h.agrees).taken in
       let size = length-append u a.since in
       let both = length-append a.since bs in
       let some : 0 < length (a.since ++ bs) = elim step.1 [
-        | inl x ↦ omega (arith, behind, ap (λ (y : Refusal). y.place) x.2, x.1, x.0.taken, taken, size, both)
+        | inl x ↦ omega (arith, following, ap (λ (y : Refusal). y.place) x.2, x.1, x.0.taken, taken, size, both)
         | inr x ↦ omega (arith, ap length x.splits, length-append x.prefix (x.byte ∷ []), both)
       ] in
       let item : (k : IsFirst (m.taken < f.place) a.since bs) → k.byte ≡ 0xff → ⊥ = λ k y. elim step.1 [
         | inl x ↦ item_so (m.taken < f.place) u ns h x.0 k y
-        | inr x ↦ omega (arith, behind, ap (λ (z : Refusal). z.place) x.is, ap length x.splits, length-append x.prefix (x.byte ∷ []), ap length k.alone, ap length k.none, taken, size)
+        | inr x ↦ omega (arith, following, ap (λ (z : Refusal). z.place) x.is, ap length x.splits, length-append x.prefix (x.byte ∷ []), ap length k.alone, ap length k.none, taken, size)
       ] in
       let whole : a.since ++ (bs ++ more) ≡ first ∷ rest = cc e in
-      let was : IsFirst (m.taken < f.place) a.since bs → m.taken < f.place = λ k. omega (arith, behind, taken, size, ap length k.none) in
+      let was : IsFirst (m.taken < f.place) a.since bs → m.taken < f.place = λ k. omega (arith, following, taken, size, ap length k.none) in
       first_of (a.since ++ bs) more first rest (prefix_so (m.taken < f.place) a.since bs was (a.kind asked) (start asked) item) some (append_assoc a.since bs more ∙ whole)

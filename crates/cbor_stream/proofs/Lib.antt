@@ -1,5 +1,4 @@
 pub mod Amid
-pub mod Answers
 pub mod Asking
 pub mod Checking
 pub mod Clean
@@ -7,5 +6,6 @@ pub mod KeyKinds
 pub mod Offers
 pub mod Said
 pub mod Starts
+pub mod StepResults
 pub mod Steps
 pub mod WholeItems

@@ -8,14 +8,14 @@ use Rattle.theory_automaton.proofs.Taking.{IsClear}
 use Rattle.cbor_machine.specs.State.{state_of, is_at_item, wanted_at}
 use Rattle.cbor_machine.specs.declared.frame.Frame as frames
 use Rattle.cbor_machine.specs.declared.step.Out.TheVariants as outs
-use Rattle.cbor_machine.specs.Machine.{StandsFor, IsComplete, IsGiven, IsDone, wanted, wanted_within}
+use Rattle.cbor_machine.specs.Machine.{Represents, IsComplete, IsGiven, IsDone, wanted, wanted_within}
 use Rattle.cbor_machine.specs.{declared.position.Position.TheVariants.Item, declared.position.Position.TheVariants.Done, NextEvent.ItemEventsView}
 use Rattle.cbor_machine.{specs.MachineView.MachineView, specs.declared.position.Position.Position, specs.declared.step.Out.Out, proofs.Positions.position-done}
 use Rattle.cbor_machine.proofs.Feeding.{rest_from, split-rest}
-use Rattle.cbor_strict.specs.{inner.OpenItems.frames_in, inner.OpenItems.Stands, declared.open_items.OpenItems.OpenItems}
+use Rattle.cbor_strict.specs.{inner.OpenItems.frames_in, inner.OpenItems.Agrees, declared.open_items.OpenItems.OpenItems}
 use Rattle.cbor_strict.proofs.StrictStops.{IsAsked}
-use Rattle.cbor_stream.specs.inner.Amid.{IsAmid, IsOffered, IsBasicFirst, IsRefusedNow, IsStepAnswer, asks_of}
-use Rattle.cbor_stream.proofs.Amid.{amid_stands, silent, nothing_since}
+use Rattle.cbor_stream.specs.inner.Amid.{IsAmid, IsOffered, IsBasicFirst, IsRefusedNow, IsStepResult, asks_of}
+use Rattle.cbor_stream.proofs.Amid.{amid_represents, silent, nothing_since}
 use Rattle.cbor_stream.proofs.{KeyKinds.HasStart, Asking.asked_so}
 
 -- ---- one byte
@@ -45,7 +45,7 @@ start_of Taken false b v since input used offered one basic = λ y. elim (offere
 
 -- ---- whether it is asked for
 
-agree : (v : OpenItems) (b : Bounds) (e : ItemEventsView) (t : List ℕ) (keys : Keys) (x y : Bool) → IsAsked x keys v → IsAsked y keys v → Stands v b e t → x ≡ true → y ≡ true
+agree : (v : OpenItems) (b : Bounds) (e : ItemEventsView) (t : List ℕ) (keys : Keys) (x y : Bool) → IsAsked x keys v → IsAsked y keys v → Agrees v b e t → x ≡ true → y ≡ true
 agree v b e t keys x y ax ay (inl h) k = (ay.expected h.fs [] h.kept h.none).1 ((ax.expected h.fs [] h.kept h.none).0 k)
 agree v b e t keys x y ax ay (inr (inl h)) k = absurd (true≢false (sym k ∙ ax.payload h.some))
 agree v b e t keys x y ax ay (inr (inr h)) k = absurd ((ax.expected [] (spell h.item) h.kept h.none).0 k).1
@@ -61,30 +61,30 @@ item_position _ fs cs e = absurd (cc e)
 module _ (m : MachineView) (v : OpenItems) (b : Bounds) (t : List ℕ) (ms : List Mark) (a : IsAmid m v b t ms) where
   pub item_nothing : m.item_expected ≡ true → a.since ≡ []
   item_nothing e =
-      let shown = (amid_stands m v b t ms a).inner.shown in
+      let shown = (amid_represents m v b t ms a).inner.shown in
       nothing_since m v b t ms a (at_item_clear m.inner.position m.inner.frames (sym shown.item_expected ∙ e))
 
   -- nothing came where it is complete
   pub complete_nothing : IsComplete m → a.since ≡ []
   complete_nothing c =
-      let shown = (amid_stands m v b t ms a).inner.shown in
+      let shown = (amid_represents m v b t ms a).inner.shown in
       let at_end : m.inner.position ≡ Done = position-done m.inner.position (sym shown.complete ∙ c.0) in
       nothing_since m v b t ms a (subst (λ (p : Position). IsClear (state_of p m.inner.frames)) (sym at_end) tt)
 
   pub asked_there : (x : Bool) → IsAsked x b.keys v → x ≡ true → asks_of b.keys v ≡ true
-  asked_there x h e = agree v b a.began a.before b.keys x (asks_of b.keys v) h (asked_so b.keys v) a.stands e
+  asked_there x h e = agree v b a.began a.before b.keys x (asks_of b.keys v) h (asked_so b.keys v) a.agrees e
 
   pub asked_here : (x : Bool) → IsAsked x b.keys v → asks_of b.keys v ≡ true → x ≡ true
-  asked_here x h e = agree v b a.began a.before b.keys (asks_of b.keys v) x (asked_so b.keys v) h a.stands e
+  asked_here x h e = agree v b a.began a.before b.keys (asks_of b.keys v) x (asked_so b.keys v) h a.agrees e
 
   -- a key is expected, and nothing of it came: its head is
   head_expected : asks_of b.keys v ≡ true → a.since ≡ [] → m.inner.position ≡ Item
-  head_expected asked none = go a.stands
+  head_expected asked none = go a.agrees
     where
       same : reached (state_of a.began.machine.inner.position a.began.machine.inner.frames) [] ≡ reached (state_of m.inner.position m.inner.frames) []
       same = subst (λ (x : List ℕ). automaton.run a.began.machine.depth (state_of a.began.machine.inner.position a.began.machine.inner.frames) x ≡ reached (state_of m.inner.position m.inner.frames) []) none (silent m v b t ms a)
 
-      go : Stands v b a.began a.before → m.inner.position ≡ Item
+      go : Agrees v b a.began a.before → m.inner.position ≡ Item
       go (inl h) =
           let states : state_of a.began.machine.inner.position a.began.machine.inner.frames ≡ state_of m.inner.position m.inner.frames = cc same in
           item_position m.inner.position m.inner.frames (frames_in h.fs) (sym states ∙ h.at.state)
@@ -98,7 +98,7 @@ module _ (m : MachineView) (v : OpenItems) (b : Bounds) (t : List ℕ) (ms : Lis
       go : (xs : List ℕ) → a.since ≡ xs → (0 < length a.since) ⊎ (used ≡ 0)
       go (x ∷ xs) e = inl (omega (arith, ap length e))
       go [] e =
-          let s = amid_stands m v b t ms a in
+          let s = amid_represents m v b t ms a in
           let item = head_expected asked e in
           let expected : m.expected ≡ 1 = s.inner.shown.expected ∙ ap wanted_at item in
           let wants : wanted m ≡ min (m.bytes - m.taken) m.expected = ap (λ (r : Option Refusal). wanted_within r (min (m.bytes - m.taken) m.expected)) s.live in
@@ -113,17 +113,17 @@ given_joined : (e : Event) (m : MachineView) (t xs ys : List ℕ) (ms : List Mar
 given_joined e m t xs ys ms g =
     let same = append_assoc t xs ys in
     record {
-      stands = subst (λ (x : List ℕ). StandsFor m x (ms ++ marks_of e.width e.kind)) same g.stands;
+      agrees = subst (λ (x : List ℕ). Represents m x (ms ++ marks_of e.width e.kind)) same g.agrees;
       place = g.place;
       ends = subst (λ (x : List ℕ). total (ms ++ marks_of e.width e.kind) ≡ length x) same g.ends;
       bytes = subst (λ (x : List ℕ). IsEventBytes ms e.width e.kind (drop e.place x)) same g.bytes;
     }
 
-pub answer_joined : (out : Out) (m : MachineView) (v : OpenItems) (b : Bounds) (t xs ys : List ℕ) (ms : List Mark) → (IsDone out → ⊥) → IsStepAnswer out m v b (t ++ xs) ys ms → IsStepAnswer out m v b t (xs ++ ys) ms
-answer_joined outs.More m v b t xs ys ms going h = subst (λ (x : List ℕ). IsAmid m v b x ms) (append_assoc t xs ys) h
-answer_joined (outs.Event e) m v b t xs ys ms going h = (given_joined e m t xs ys ms h.0, subst (λ (x : List ℕ). IsAmid m v b x (ms ++ marks_of e.width e.kind)) (append_assoc t xs ys) h.1)
-answer_joined outs.Done m v b t xs ys ms going h = absurd (going tt)
-answer_joined (outs.Refused f) m v b t xs ys ms going h = subst (IsRefusedNow f v b) (append_assoc t xs ys) h
+pub result_joined : (out : Out) (m : MachineView) (v : OpenItems) (b : Bounds) (t xs ys : List ℕ) (ms : List Mark) → (IsDone out → ⊥) → IsStepResult out m v b (t ++ xs) ys ms → IsStepResult out m v b t (xs ++ ys) ms
+result_joined outs.More m v b t xs ys ms going h = subst (λ (x : List ℕ). IsAmid m v b x ms) (append_assoc t xs ys) h
+result_joined (outs.Event e) m v b t xs ys ms going h = (given_joined e m t xs ys ms h.0, subst (λ (x : List ℕ). IsAmid m v b x (ms ++ marks_of e.width e.kind)) (append_assoc t xs ys) h.1)
+result_joined outs.Done m v b t xs ys ms going h = absurd (going tt)
+result_joined (outs.Refused f) m v b t xs ys ms going h = subst (IsRefusedNow f v b) (append_assoc t xs ys) h
 
 -- what came since the last event, as each that says so has it
 pub since_longer : (m n : MachineView) (v w : OpenItems) (b : Bounds) (t xs : List ℕ) (ms : List Mark) (a : IsAmid m v b t ms) (c : IsAmid n w b (t ++ xs) ms) → 0 < length xs → 0 < length c.since

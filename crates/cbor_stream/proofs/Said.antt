@@ -10,7 +10,7 @@ use Rattle.cbor_machine.specs.Machine.{IsComplete, IsWhole, wanted}
 use Rattle.cbor_machine.{specs.declared.step.Out.Out, proofs.NextEvents.complete-wants, proofs.NextEvents.wants-short}
 use Rattle.theory_verdicts.proofs.Accepted.{one_item, one_refusal, not_both, prefix_accepted, verdict_only}
 use Rattle.theory_verdicts.{specs.Readers.IsRead, specs.Refusals.IsComplaintReason, proofs.CanonicalPrefixes.prefix_read}
-use Rattle.cbor_stream.specs.StrictMachine.{StrictMachineView, StandsAmid, IsStrictlyRefused, limits_of}
+use Rattle.cbor_stream.specs.StrictMachine.{StrictMachineView, AgreesAmid, IsStrictlyRefused, limits_of}
 use Rattle.cbor_stream.specs.Said.{Tells, SaysMore, SaysDone, SaysRefused, Says, IsOfWhole}
 use Rattle.cbor_stream.specs.Reasons.{IsStrictReason}
 
@@ -43,14 +43,14 @@ module _ (v : StrictMachineView) (t : List ℕ) where
   abbrev r : Rules
   r = strict v.order
 
-  module _ (ms : List Mark) (h : StandsAmid v t ms) where
+  module _ (ms : List Mark) (h : AgreesAmid v t ms) where
     -- the item goes on
     pub says_more : 0 < wanted v.machine → SaysMore v t
     says_more some =
-        let unfinished : ¬ IsWhole v.machine.depth t = λ w. complete-wants v.machine h.stands.inner.shown some (h.stands.complete.1 w) in
-        let short : length t < b.bytes = (let less = wants-short v.machine some in omega (arith, less, h.stands.taken)) in
+        let unfinished : ¬ IsWhole v.machine.depth t = λ w. complete-wants v.machine h.agrees.inner.shown some (h.agrees.complete.1 w) in
+        let short : length t < b.bytes = (let less = wants-short v.machine some in omega (arith, less, h.agrees.taken)) in
         let all : take b.bytes t ≡ t = take_all b.bytes t (omega (arith, short)) in
-        let g = h.stands.beginning in (
+        let g = h.agrees.beginning in (
           (ms, h),
           record {
             p = t;
@@ -69,13 +69,13 @@ module _ (v : StrictMachineView) (t : List ℕ) where
     -- it is complete
     pub says_done : IsComplete v.machine → SaysDone v t
     says_done c =
-        let w = h.stands.complete.0 c in
+        let w = h.agrees.complete.0 c in
         let s = w.0 in
         let starts : StartsWith v.machine.depth s t = ([], subst (IsItem v.machine.depth s) (sym (append-nil t)) w.1) in
         let item : IsItem b.depth s (spell s) = record { spelled = w.1.spelled; within = w.1.within; bytes_are = refl } in
         let size : length (spell s) ≡ length t = ap length w.1.bytes_are in
         let sound : (c : Complaint) → IsComplaint b r s c → ⊥ = λ c k. h.clean s starts c k (omega (arith, complaint_within b r s c k, size)) in
-        let fits : length (spell s) ≤ b.bytes = omega (arith, size, h.stands.taken, h.stands.limited) in
+        let fits : length (spell s) ≤ b.bytes = omega (arith, size, h.agrees.taken, h.agrees.limited) in
         let read : (more : List ℕ) → IsRead b r (t ++ more) (length t) = λ more. record {
           item = s;
           verdict = subst (λ (x : List ℕ). IsVerdict b r (x ++ more) (accepted s)) w.1.bytes_are (prefix_accepted b r s more item sound fits);

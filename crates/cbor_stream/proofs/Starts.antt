@@ -4,15 +4,15 @@ use Rattle.cbor_head.specs.Prelude.{Bounds, AreBounds, strict}
 use Rattle.cbor_head.specs.declared.{keys.Keys.Keys, order.KeyOrder.KeyOrder, reason.Reason.TheVariants.Memory, reason.Refusal.Refusal}
 use Rattle.theory_automaton.specs.{Trace.Mark, Marks.marks_of}
 use Rattle.cbor_machine.specs.declared.step.Out.TheVariants as outs
-use Rattle.cbor_machine.specs.{MachineView.MachineView, Machine.StandsFor, Machine.KeepsLimits, declared.step.Out.Out}
-use Rattle.cbor_machine.specs.NextEvent.{ItemEventsView, StandsBetween}
+use Rattle.cbor_machine.specs.{MachineView.MachineView, Machine.Represents, Machine.KeepsLimits, declared.step.Out.Out}
+use Rattle.cbor_machine.specs.NextEvent.{ItemEventsView, AgreesBetween}
 use Rattle.theory_verdicts.{specs.Readers.IsUnread, proofs.KindFrames.keeps_start}
-use Rattle.cbor_strict.proofs.StrictReading.{stands_first, same_bounds, first_bounds}
+use Rattle.cbor_strict.proofs.StrictReading.{agrees_first, same_bounds, first_bounds}
 use Rattle.cbor_strict.specs.{declared.last_keys.LastKeys.LastKeys, declared.open_items.OpenItems.OpenItems, inner.LastKeys.view_value, inner.LastKeys.IsKept}
-use Rattle.cbor_strict.{specs.inner.StrictEvents.bounds_of, proofs.KeptReading.stands_little}
-use Rattle.cbor_stream.specs.StrictMachine.{StrictMachineView, StandsAmid, IsStrictAnswer, IsStrictlyRefused, IsLive}
-use Rattle.cbor_stream.specs.inner.Amid.{IsAmid, IsStepAnswer, IsRefusedNow, AreSound}
-use Rattle.cbor_stream.{specs.Reasons.IsStrictReason, proofs.Amid.amid_stands, proofs.Clean.amid_clean, proofs.Clean.amid_counted}
+use Rattle.cbor_strict.{specs.inner.StrictEvents.bounds_of, proofs.KeptReading.agrees_little}
+use Rattle.cbor_stream.specs.StrictMachine.{StrictMachineView, AgreesAmid, IsStrictResult, IsStrictlyRefused, IsLive}
+use Rattle.cbor_stream.specs.inner.Amid.{IsAmid, IsStepResult, IsRefusedNow, AreSound}
+use Rattle.cbor_stream.{specs.Reasons.IsStrictReason, proofs.Amid.amid_represents, proofs.Clean.amid_clean, proofs.Clean.amid_counted}
 
 -- as contracts see it
 abbrev pub shown : MachineView → OpenItems → Keys → Option Refusal → StrictMachineView
@@ -27,11 +27,11 @@ shown m v keys r = record {
   inner = record { items = v };
 }
 
-pub stands_amid : (m : MachineView) (v : OpenItems) (keys : Keys) (t : List ℕ) (ms : List Mark) → IsAmid m v (bounds_of m keys) t ms → StandsAmid (shown m v keys None) t ms
-stands_amid m v keys t ms a =
+pub agrees_amid : (m : MachineView) (v : OpenItems) (keys : Keys) (t : List ℕ) (ms : List Mark) → IsAmid m v (bounds_of m keys) t ms → AgreesAmid (shown m v keys None) t ms
+agrees_amid m v keys t ms a =
     let b = bounds_of m keys in
     record {
-      stands = amid_stands m v b t ms a;
+      agrees = amid_represents m v b t ms a;
       clean = amid_clean m v b t ms a;
       spans = λ s i. (amid_counted m v b t ms a s i).spans;
       kept = λ s i. (amid_counted m v b t ms a s i).kept;
@@ -43,9 +43,9 @@ stands_amid m v keys t ms a =
 
 pub sound_live : (m : MachineView) (v : OpenItems) (keys : Keys) (b : Bounds) (t : List ℕ) (ms : List Mark) → b.keys ≡ keys → AreBounds (bounds_of m keys) → IsAmid m v b t ms → AreSound m v keys None
 sound_live m v keys b t ms asks limits a =
-    let s = amid_stands m v b t ms a in
-    let little = stands_little v b a.began a.before a.stands in
-    let before = a.between.stands in
+    let s = amid_represents m v b t ms a in
+    let little = agrees_little v b a.began a.before a.agrees in
+    let before = a.between.agrees in
     record {
       somewhere = λ n. record { b = b; asks = asks; t = t; ms = ms; amid = a };
       stopped = tt;
@@ -62,26 +62,26 @@ sound_live m v keys b t ms asks limits a =
 abbrev pub events_of : MachineView → ItemEventsView
 events_of m = record { machine = m; piece = []; refusal = None }
 
-module _ (limits : Bounds) (keys : Keys) (m : MachineView) (v : OpenItems) (asks : keys ≡ limits.keys) (within : AreBounds limits) (same : (m.depth ≡ limits.depth) × (m.bytes ≡ limits.bytes)) (s : StandsFor m [] []) (none : v.left ≡ 0) (kept : IsKept (view_value v.keys) [] []) where
+module _ (limits : Bounds) (keys : Keys) (m : MachineView) (v : OpenItems) (asks : keys ≡ limits.keys) (within : AreBounds limits) (same : (m.depth ≡ limits.depth) × (m.bytes ≡ limits.bytes)) (s : Represents m [] []) (none : v.left ≡ 0) (kept : IsKept (view_value v.keys) [] []) where
   first_amid : IsAmid m v limits [] []
   first_amid =
-      let between : StandsBetween m [] [] = record { stands = s; whole = refl } in
+      let between : AgreesBetween m [] [] = record { agrees = s; whole = refl } in
       record {
         began = events_of m;
         before = [];
         since = [];
         splits = refl;
         between = between;
-        led = λ u ns h. subst (λ (x : List ℕ). StandsFor m x ns) (sym (append-nil u)) h;
+        led = λ u ns h. subst (λ (x : List ℕ). Represents m x ns) (sym (append-nil u)) h;
         depth = refl;
         bytes = refl;
-        stands = stands_first limits (events_of m) v within refl same between none kept;
+        agrees = agrees_first limits (events_of m) v within refl same between none kept;
         keeps = keeps_start limits (strict v.order);
         kind = λ y. tt;
       }
 
-  pub starts_amid : StandsAmid (shown m v keys None) [] []
-  starts_amid = stands_amid m v keys [] [] (subst (λ (b : Bounds). IsAmid m v b [] []) (sym (first_bounds limits keys (events_of m) asks same)) first_amid)
+  pub starts_amid : AgreesAmid (shown m v keys None) [] []
+  starts_amid = agrees_amid m v keys [] [] (subst (λ (b : Bounds). IsAmid m v b [] []) (sym (first_bounds limits keys (events_of m) asks same)) first_amid)
 
   pub starts_sound : AreSound m v keys None
   starts_sound = sound_live m v keys limits [] [] (sym asks) (omega (arith, within.0, same.0), omega (arith, within.1, same.1)) first_amid
@@ -106,15 +106,15 @@ module _ (m new : MachineView) (v w : OpenItems) (keys : Keys) (limits : KeepsLi
     kept = omega (arith, ap length kept.bytes);
   }
 
-  pub there : (t : List ℕ) (ms : List Mark) → IsAmid new w (bounds_of m keys) t ms → StandsAmid (shown new w keys None) t ms
-  there t ms a = stands_amid new w keys t ms (subst (λ (b : Bounds). IsAmid new w b t ms) (same_bounds m new keys limits) a)
+  pub there : (t : List ℕ) (ms : List Mark) → IsAmid new w (bounds_of m keys) t ms → AgreesAmid (shown new w keys None) t ms
+  there t ms a = agrees_amid new w keys t ms (subst (λ (b : Bounds). IsAmid new w b t ms) (same_bounds m new keys limits) a)
 
   -- what a step returns, as contracts see it
-  pub answer_so : (out : Out) (t bs : List ℕ) (ms : List Mark) → IsLive out → IsStepAnswer out new w (bounds_of m keys) t bs ms → IsStrictAnswer out (shown new w keys None) t bs ms
-  answer_so outs.More t bs ms live a = there (t ++ bs) ms a
-  answer_so (outs.Event e) t bs ms live a = (a.0, there (t ++ bs) (ms ++ marks_of e.width e.kind) a.1)
-  answer_so outs.Done t bs ms live a = (a.0, a.1, there t ms a.2)
-  answer_so (outs.Refused f) t bs ms live a = absurd live
+  pub result_so : (out : Out) (t bs : List ℕ) (ms : List Mark) → IsLive out → IsStepResult out new w (bounds_of m keys) t bs ms → IsStrictResult out (shown new w keys None) t bs ms
+  result_so outs.More t bs ms live a = there (t ++ bs) ms a
+  result_so (outs.Event e) t bs ms live a = (a.0, there (t ++ bs) (ms ++ marks_of e.width e.kind) a.1)
+  result_so outs.Done t bs ms live a = (a.0, a.1, there t ms a.2)
+  result_so (outs.Refused f) t bs ms live a = absurd live
 
   pub refused_so : (f : Refusal) (last : LastKeys) (all : List ℕ) → IsRefusedNow f w (bounds_of m keys) all → IsStrictlyRefused f (shown new (record w { keys = last }) keys (Some f)) all
   refused_so f last all n = record {
@@ -123,7 +123,7 @@ module _ (m new : MachineView) (v w : OpenItems) (keys : Keys) (limits : KeepsLi
   }
 
   -- some bytes led there
-  pub sound_so : (out : Out) (b : Bounds) (t bs : List ℕ) (ms : List Mark) → b.keys ≡ keys → IsLive out → IsStepAnswer out new w b t bs ms → AreSound new w keys None
+  pub sound_so : (out : Out) (b : Bounds) (t bs : List ℕ) (ms : List Mark) → b.keys ≡ keys → IsLive out → IsStepResult out new w b t bs ms → AreSound new w keys None
   sound_so outs.More b t bs ms asks live a = sound_live new w keys b (t ++ bs) ms asks limits_so a
   sound_so (outs.Event e) b t bs ms asks live a = sound_live new w keys b (t ++ bs) (ms ++ marks_of e.width e.kind) asks limits_so a.1
   sound_so outs.Done b t bs ms asks live a = sound_live new w keys b t ms asks limits_so a.2

@@ -6,7 +6,7 @@ use Rattle.theory_automaton.specs.Trace.{Mark}
 use Rattle.cbor_machine.specs.declared.step.Out.TheVariants as outs
 use Rattle.cbor_machine.specs.declared.step.Out.{Out}
 use Rattle.theory_verdicts.specs.Readers.{IsRead, IsCanonicalPrefix}
-use Rattle.cbor_stream.specs.StrictMachine.{StrictMachineView, StandsAmid, IsStrictlyRefused, limits_of}
+use Rattle.cbor_stream.specs.StrictMachine.{StrictMachineView, AgreesAmid, IsStrictlyRefused, limits_of}
 
 -- their item has this number of bytes, or they are refused
 abbrev pub Tells : Bounds → KeyOrder → List ℕ → Result ℕ Refusal → Type 0
@@ -15,11 +15,11 @@ Tells limits o input (Err f) = IsVerdict limits (strict o) input (refused f)
 
 -- all bytes so far, whose item goes on: as a whole input they are cut short
 abbrev pub SaysMore : StrictMachineView → List ℕ → Type 0
-SaysMore v all = ((ms : List Mark) × StandsAmid v all ms) × Tells (limits_of v) v.order all (Err (refusal Truncated (length all) (length all)))
+SaysMore v all = ((ms : List Mark) × AgreesAmid v all ms) × Tells (limits_of v) v.order all (Err (refusal Truncated (length all) (length all)))
 
 -- their item is complete, whatever may follow, and they are its canonical bytes
 abbrev pub SaysDone : StrictMachineView → List ℕ → Type 0
-SaysDone v all = ((ms : List Mark) × StandsAmid v all ms) × ((more : List ℕ) → Tells (limits_of v) v.order (all ++ more) (Ok (length all)) × IsCanonicalPrefix (limits_of v) v.order (all ++ more) (length all))
+SaysDone v all = ((ms : List Mark) × AgreesAmid v all ms) × ((more : List ℕ) → Tells (limits_of v) v.order (all ++ more) (Ok (length all)) × IsCanonicalPrefix (limits_of v) v.order (all ++ more) (length all))
 
 -- they are refused, whatever may follow, unless memory was
 abbrev pub SaysRefused : Refusal → StrictMachineView → List ℕ → Type 0

@@ -4,7 +4,7 @@ use Rattle.cbor_head.specs.Prelude.{Bounds, bounds, with_keys, Spelling, strict}
 use Rattle.cbor_head.specs.{Laws.StartsWith, Laws.IsWithout, declared.keys.Keys.Keys, declared.order.KeyOrder.KeyOrder, declared.reason.Refusal.Refusal}
 use Rattle.theory_automaton.specs.{Trace.Mark, Trace.total, Marks.marks_of}
 use Rattle.cbor_machine.specs.declared.step.Out.TheVariants as outs
-use Rattle.cbor_machine.specs.Machine.{StandsFor, IsComplete, IsGiven}
+use Rattle.cbor_machine.specs.Machine.{Represents, IsComplete, IsGiven}
 use Rattle.cbor_machine.specs.{MachineView.MachineView, declared.step.Out.Out}
 use Rattle.theory_verdicts.specs.Readers.{IsUnread}
 use Rattle.cbor_strict.specs.KeptKeys.{open_maps, key_bytes}
@@ -30,8 +30,8 @@ abbrev pub limits_of : StrictMachineView → Bounds
 limits_of v = with_keys (bounds v.machine.depth v.machine.bytes) v.keys
 
 -- The bytes t were taken, however they were cut, and ms reported; nothing in t has a complaint.
-pub record StandsAmid (v : StrictMachineView) (t : List ℕ) (ms : List Mark) : Type 0 where
-  pub stands : StandsFor v.machine t ms
+pub record AgreesAmid (v : StrictMachineView) (t : List ℕ) (ms : List Mark) : Type 0 where
+  pub agrees : Represents v.machine t ms
   -- no complaint ends within t, of any item that starts with t
   pub clean : (s : Spelling) → StartsWith v.machine.depth s t → IsWithout (limits_of v) (strict v.order) s (length t)
   -- what is stored is what each such item reports, up to the last event: a span for each open map, and the bytes of keys that
@@ -48,11 +48,11 @@ pub record IsStrictlyRefused (f : Refusal) (v : StrictMachineView) (all : List �
   pub unread : (more : List ℕ) → IsUnread (limits_of v) (strict v.order) (all ++ more) f
 
 -- what a step returns, of a machine that represented t and ms and has now used bs
-abbrev pub IsStrictAnswer : Out → StrictMachineView → List ℕ → List ℕ → List Mark → Type 0
-IsStrictAnswer outs.More v t bs ms = StandsAmid v (t ++ bs) ms
-IsStrictAnswer (outs.Event e) v t bs ms = IsGiven e v.machine t bs ms × StandsAmid v (t ++ bs) (ms ++ marks_of e.width e.kind)
-IsStrictAnswer outs.Done v t bs ms = (bs ≡ []) × IsComplete v.machine × StandsAmid v t ms
-IsStrictAnswer (outs.Refused f) v t bs ms = IsStrictlyRefused f v (t ++ bs)
+abbrev pub IsStrictResult : Out → StrictMachineView → List ℕ → List ℕ → List Mark → Type 0
+IsStrictResult outs.More v t bs ms = AgreesAmid v (t ++ bs) ms
+IsStrictResult (outs.Event e) v t bs ms = IsGiven e v.machine t bs ms × AgreesAmid v (t ++ bs) (ms ++ marks_of e.width e.kind)
+IsStrictResult outs.Done v t bs ms = (bs ≡ []) × IsComplete v.machine × AgreesAmid v t ms
+IsStrictResult (outs.Refused f) v t bs ms = IsStrictlyRefused f v (t ++ bs)
 
 -- no refusal
 abbrev pub IsLive : Out → Type 0

@@ -8,7 +8,7 @@ ghost use Rattle.cbor_head.specs.declared.reason.Reason.TheVariants as reasons;
 ghost use Rattle.theory_automaton.specs.Trace.{Mark};
 ghost use Rattle.cbor_machine.specs.Machine.{KeepsLimits, IsComplete, IsEvent, IsMore, IsDone};
 ghost use Rattle.cbor_machine.specs.Machine.{IfRefused, wanted, piece_of};
-ghost use Rattle.cbor_stream.specs.inner.Amid.{IsAmid, IsSomewhere, IsOffered, IsStepAnswer, asks_of};
+ghost use Rattle.cbor_stream.specs.inner.Amid.{IsAmid, IsSomewhere, IsOffered, IsStepResult, asks_of};
 ghost use Rattle.cbor_stream.specs.Reasons.{IsStrictReason};
 ghost use Rattle.cbor_stream.specs.inner.Amid.{IsTaken, IsBasicFirst, IsOtherFirst};
 
@@ -48,10 +48,10 @@ fn offer(machine: &mut Machine, items: &mut OpenItems, is_key: bool, input: &[u8
         × (machine.new.taken ≡ machine.old.taken + result.used) }
     ensures limits { KeepsLimits machine.old machine.new }
     ensures order { items.new.order ≡ items.old.order }
-    ensures answers { (b : Bounds) (t : List ℕ) (ms : List Mark)
+    ensures returned { (b : Bounds) (t : List ℕ) (ms : List Mark)
         → (a : IsAmid machine.old items.old b t ms)
         → IsOffered is_key b items.old a.since result.used
-        → IsStepAnswer result.out machine.new items.new b t (take result.used input.now) ms }
+        → IsStepResult result.out machine.new items.new b t (take result.used input.now) ms }
     ensures event { (IsEvent result.out → 0 < result.used) × (piece_of result.out ≤ result.used) }
     ensures more { IsMore result.out → (result.used ≡ length input.now)
         × (0 < wanted machine.new) }
@@ -125,9 +125,9 @@ pub(crate) fn next_step(
         × (machine.new.taken ≡ machine.old.taken + result.used) }
     ensures limits { KeepsLimits machine.old machine.new }
     ensures order { items.new.order ≡ items.old.order }
-    ensures answers { (b : Bounds) (t : List ℕ) (ms : List Mark)
+    ensures returned { (b : Bounds) (t : List ℕ) (ms : List Mark)
         → IsAmid machine.old items.old b t ms → b.keys ≡ keys
-        → IsStepAnswer result.out machine.new items.new b t (take result.used input.now) ms }
+        → IsStepResult result.out machine.new items.new b t (take result.used input.now) ms }
     ensures event { (IsEvent result.out → 0 < result.used) × (piece_of result.out ≤ result.used) }
     ensures more { IsMore result.out → (result.used ≡ length input.now)
         × (0 < wanted machine.new) }

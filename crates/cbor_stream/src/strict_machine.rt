@@ -8,7 +8,7 @@ ghost use Rattle.theory_automaton.specs.Trace.{Mark};
 ghost use Rattle.cbor_machine.specs.Machine.{KeepsLimits, IsComplete, IsEvent, IsMore, IsDone};
 ghost use Rattle.cbor_machine.specs.Machine.{IfRefused, piece_of, wanted};
 ghost use Rattle.cbor_strict.specs.inner.LastKeys.{view_value};
-ghost use Rattle.cbor_stream.specs.StrictMachine.{StrictMachineView, StandsAmid, IsStrictAnswer};
+ghost use Rattle.cbor_stream.specs.StrictMachine.{StrictMachineView, AgreesAmid, IsStrictResult};
 ghost use Rattle.cbor_stream.specs.StrictMachine.{limits_of, IsLive};
 ghost use Rattle.cbor_stream.specs.Reasons.{IsStrictReason};
 ghost use Rattle.cbor_stream.specs.Said.{Says, EndsAs};
@@ -57,7 +57,7 @@ impl Model for StrictMachine {
 impl StrictMachine {
     /// A machine before an item's first byte. Takes no memory.
     pub fn new(alloc: Global, limits: Limits, order: KeyOrder) -> StrictMachine
-        ensures starts { StandsAmid result [] [] }
+        ensures starts { AgreesAmid result [] [] }
         ensures limits { limits_of result ≡ limits }
         ensures order { result.order ≡ order }
         ensures memory { result.refused ≡ false }
@@ -73,7 +73,7 @@ impl StrictMachine {
 
     /// Goes on with another item within the same limits, whatever became of the one before.
     pub fn restart(&mut self, order: KeyOrder)
-        ensures starts { StandsAmid self.new [] [] }
+        ensures starts { AgreesAmid self.new [] [] }
         ensures limits { limits_of self.new ≡ limits_of self.old }
         ensures order { self.new.order ≡ order }
         ensures memory { self.new.refused ≡ false }
@@ -128,8 +128,8 @@ impl StrictMachine {
             × (self.new.machine.taken ≡ self.old.machine.taken + result.used) }
 
         // For all bytes and marks that the machine represented.
-        ensures answers { (t : List ℕ) (ms : List Mark) → StandsAmid self.old t ms
-            → IsStrictAnswer result.out self.new t (take result.used input.now) ms }
+        ensures returned { (t : List ℕ) (ms : List Mark) → AgreesAmid self.old t ms
+            → IsStrictResult result.out self.new t (take result.used input.now) ms }
         ensures limits { KeepsLimits self.old.machine self.new.machine }
         ensures order { self.new.order ≡ self.old.order }
         ensures keys { self.new.keys ≡ self.old.keys }
@@ -174,9 +174,9 @@ impl StrictMachine {
     fn take_item(&mut self, input: &[u8]) -> Option<usize>
         ensures used { IfSome result (λ used. (0 < used) × (used ≤ length input.now)
             × (self.new.machine.taken ≡ self.old.machine.taken + used)) }
-        ensures stands { IfSome result (λ used. (t : List ℕ) (ms : List Mark)
-            → StandsAmid self.old t ms
-            → (ns : List Mark) × StandsAmid self.new (t ++ take used input.now) ns) }
+        ensures agrees { IfSome result (λ used. (t : List ℕ) (ms : List Mark)
+            → AgreesAmid self.old t ms
+            → (ns : List Mark) × AgreesAmid self.new (t ++ take used input.now) ns) }
         ensures limits { IfSome result (λ used. KeepsLimits self.old.machine self.new.machine) }
         ensures order { self.new.order ≡ self.old.order }
         ensures keys { self.new.keys ≡ self.old.keys }
@@ -216,7 +216,7 @@ impl StrictMachine {
             × (self.new.machine.taken ≡ self.old.machine.taken + result.used) }
 
         // Of all bytes so far, for all that the machine represented.
-        ensures says { (t : List ℕ) (ms : List Mark) → StandsAmid self.old t ms
+        ensures says { (t : List ℕ) (ms : List Mark) → AgreesAmid self.old t ms
             → Says result.out self.new (t ++ take result.used input.now) }
         ensures limits { KeepsLimits self.old.machine self.new.machine }
         ensures order { self.new.order ≡ self.old.order }
@@ -252,14 +252,14 @@ impl StrictMachine {
     /// The verdict if no byte follows: the number of the item's bytes, or the refusal. Of an item
     /// that is not complete that is `Truncated` at the number of bytes taken.
     pub fn end(&mut self) -> Result<u64, Refusal>
-        ensures says { (t : List ℕ) (ms : List Mark) → StandsAmid self.old t ms
+        ensures says { (t : List ℕ) (ms : List Mark) → AgreesAmid self.old t ms
             → EndsAs (limits_of self.old) self.old.order t result }
         ensures limits { limits_of self.new ≡ limits_of self.old }
         ensures order { self.new.order ≡ self.old.order }
 
         // More bytes may follow all the same, if none was refused.
-        ensures stands { (t : List ℕ) (ms : List Mark) → StandsAmid self.old t ms
-            → self.new.refusal ≡ None → StandsAmid self.new t ms }
+        ensures agrees { (t : List ℕ) (ms : List Mark) → AgreesAmid self.old t ms
+            → self.new.refusal ≡ None → AgreesAmid self.new t ms }
         ensures again { IfSome self.old.refusal (λ f. result ≡ Err f) }
         ensures memory { IfErr result (λ f. f.reason ≡ reasons.Memory → IsTrue self.new.refused) }
     {

@@ -25,7 +25,7 @@ pub(crate) fn take_item(
     requires outside { (view_value items.old.keys).open_keys ≡ 0 }
     ensures used { IfSome result (λ used. (0 < used) × (used ≤ length input.now)
         × (machine.new.taken ≡ machine.old.taken + used)) }
-    ensures stands { IfSome result (λ used. (b : Bounds) (t : List ℕ) (ms : List Mark)
+    ensures agrees { IfSome result (λ used. (b : Bounds) (t : List ℕ) (ms : List Mark)
         → IsAmid machine.old items.old b t ms → b.keys ≡ keys
         → (ns : List Mark) × IsAmid machine.new items.new b (t ++ take used input.now) ns) }
     ensures limits { IfSome result (λ used. KeepsLimits machine.old machine.new) }

@@ -7,7 +7,7 @@ use std::alloc::{AllocError, Global};
 use std::test::Fail;
 
 // What the machine reports, as the check of a slice does: Truncated for an item that is not complete.
-pub(crate) fn answer_of(step: Step, taken: u64) -> Option<Result<u64, Refusal>> {
+pub(crate) fn outcome_of(step: Step, taken: u64) -> Option<Result<u64, Refusal>> {
     match step.out {
         Out::Done => Some(Ok(taken)),
         Out::More => Some(Err(Refusal::new(Reason::Truncated, taken, taken))),
@@ -39,7 +39,7 @@ pub(crate) fn is_alike(
         let is_tried = to <= 64 || to % 64 == 0 || all - to <= 4;
         if is_tried || step.out != Out::More {
             let wanted = check_canonical(&input[..to], limits, order);
-            if answer_of(step, machine.taken()) != Some(wanted) {
+            if outcome_of(step, machine.taken()) != Some(wanted) {
                 return false;
             }
         }

@@ -2,7 +2,7 @@
 
 ghost use Rattle.std.specs.Prelude.{◌<◌};
 
-use crate::tests::{answer_of, is_alike};
+use crate::tests::{outcome_of, is_alike};
 use cbor_head::{Keys, Limits};
 use cbor_stream::{Out, StrictMachine};
 use cbor_strict::{KeyOrder, check_canonical};
@@ -36,7 +36,7 @@ fn is_alike_cut(alloc: Global, input: &[u8], limits: Limits, most: u32, seed: u3
         let to = input.len().min(from + length);
         let step = machine.check(&input[from..to]);
         let wanted = check_canonical(&input[..to], limits, KeyOrder::Bytewise);
-        if answer_of(step, machine.taken()) != Some(wanted) {
+        if outcome_of(step, machine.taken()) != Some(wanted) {
             return false;
         }
         if step.out != Out::More {

@@ -2,7 +2,7 @@
 use Rattle.std.proofs.Common.{◌≡◌, ℕ, suc, ◌+◌, ◌-◌, ◌<◌, ◌≤◌, List, [], ◌∷◌, ◌++◌, length, refl, ap, ◌∙◌, arith, if◌then◌else◌, lt-ltb, le-ltb, le-leb, length-append}
 use Rattle.cbor_head.specs.Prelude.{head, Spelling, Spellings, SpelledEntries, a_map, no_spellings, a_spelling, no_entries, entry, spell, spell_all, spell_entries, spellings_count, entries_count}
 use Rattle.cbor_head.specs.declared.major.Major.TheVariants.{Array, Map, Tag}
-use Rattle.theory_verdicts.specs.Frame.{Frame, a_member, a_key, a_content, tagged, with_all, with_entries, plug, before, behind}
+use Rattle.theory_verdicts.specs.Frame.{Frame, a_member, a_key, a_content, tagged, with_all, with_entries, plug, before, following}
 use Rattle.theory_verdicts.proofs.Frames.{count_with, entries_with, pair_size, spell_plug}
 use Rattle.theory_verdicts.specs.{LastKey.last_key, OpenMaps.before_all}
 use Rattle.cbor_strict.specs.KeptKeys.{open_maps, open_maps_in, open_maps_in_entries, key_bytes, key_bytes_in, key_bytes_in_entries}
@@ -74,7 +74,7 @@ value_counted (entry j u a) k v b n m last e l =
 
 -- an item is completely in its container
 pub plug_size : (f : Frame) (s : Spelling) → length (before f) + length (spell s) ≤ length (spell (plug f s))
-plug_size f s = omega (arith, ap length (spell_plug f s), length-append (before f) (spell s ++ behind f), length-append (spell s) (behind f))
+plug_size f s = omega (arith, ap length (spell_plug f s), length-append (before f) (spell s ++ following f), length-append (spell s) (following f))
 
 none_more : (n : ℕ) → n ≡ 0 + n
 none_more n = omega arith

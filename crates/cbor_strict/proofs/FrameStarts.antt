@@ -5,7 +5,7 @@ use Rattle.cbor_head.specs.declared.major.Major.TheVariants.{Array, Map, Tag}
 use Rattle.cbor_head.{specs.declared.width.Width.Width, specs.declared.width.Width.TheVariants.Indefinite, proofs.HeadLaws.reported}
 use Rattle.theory_values.proofs.Parts.{major, width, count, head_of, body, parts, holds_of, one_head, as_array, as_map, as_tag}
 use Rattle.theory_values.proofs.ReadLaws.{unique, holds_or_open}
-use Rattle.theory_verdicts.specs.Frame.{Frame, a_member, a_key, a_content, tagged, with_all, with_entries, plug, before, behind, IsFrame}
+use Rattle.theory_verdicts.specs.Frame.{Frame, a_member, a_key, a_content, tagged, with_all, with_entries, plug, before, following, IsFrame}
 use Rattle.cbor_strict.{specs.inner.LastKeys.HasLength, proofs.FrameCounts.around, proofs.FrameCounts.one_map}
 
 -- ---- an item that starts as a container does
@@ -71,7 +71,7 @@ pub record StartsIn (f : Frame) (s : Spelling) (x rest : List ℕ) : Type 0 wher
   pub maps : one_map frame ≡ one_map f
   pub keys : (n k : ℕ) → around frame n k ≡ around f n k
   pub spelled : IsSpelled item
-  pub bytes_are : spell item ++ (behind frame ++ x) ≡ rest
+  pub bytes_are : spell item ++ (following frame ++ x) ≡ rest
 
 pub starts_in : (f : Frame) (s : Spelling) (x rest : List ℕ) → IsFrame f → HasLength f → IsSpelled s → spell s ++ x ≡ before f ++ rest → StartsIn f s x rest
 starts_in (a_member w a b) s x rest h l i e =

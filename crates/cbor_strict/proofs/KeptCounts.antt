@@ -3,7 +3,7 @@ use Rattle.std.proofs.Common.{◌≡◌, ℕ, ◌+◌, ◌-◌, ◌<◌, ◌≤�
 use Rattle.cbor_head.specs.Prelude.{head, Spelling, Spellings, array, a_map, tag, no_spellings, a_spelling, spell, spell_all, spellings_count, entries_count, break_of, IsSpelled}
 use Rattle.cbor_head.specs.declared.major.Major.TheVariants.{Array, Map, Tag}
 use Rattle.theory_automaton.proofs.Opens.{over-none}
-use Rattle.theory_verdicts.specs.Frame.{Frame, before, behind, IsFrame}
+use Rattle.theory_verdicts.specs.Frame.{Frame, before, following, IsFrame}
 use Rattle.theory_verdicts.specs.OpenMaps.{before_all}
 use Rattle.cbor_strict.specs.KeptKeys.{open_maps, open_maps_in, key_bytes, key_bytes_in}
 use Rattle.cbor_strict.proofs.FrameCounts.{around, keys_size, map_count, members_size, one_map, plug_counted, plug_size}
@@ -27,7 +27,7 @@ path_counts [] p h base s x u i e = base s x u i e
 path_counts (f ∷ fs) p h base s x u i e =
     let k = starts_in f s x ((before_all fs ++ p) ++ u) h.0 h.1 i
     (e ∙ ap (λ (y : List ℕ). y ++ u) (append_assoc (before f) (before_all fs) p) ∙ append_assoc (before f) (before_all fs ++ p) u) in
-    let c = path_counts fs p h.2 base k.item (behind k.frame ++ x) u k.spelled k.bytes_are in
+    let c = path_counts fs p h.2 base k.item (following k.frame ++ x) u k.spelled k.bytes_are in
     let n = length (before_all fs ++ p) in
     let sizes : length ((before f ++ before_all fs) ++ p) ≡ length (before k.frame) + n = ap length (append_assoc (before f) (before_all fs) p) ∙ length-append (before f) (before_all fs ++ p) ∙ ap (λ (y : ℕ). y + n) (sym k.size) in
     let inner = c.within in

@@ -3,23 +3,23 @@ use Rattle.std.proofs.Common.{◌≡◌, ◌≢◌, ℕ, suc, ◌+◌, ◌<◌, 
 use Rattle.std.proofs.{lemmas.Bool.cases_Bool, lemmas.List.same_from_push, Math.Seq.take-append_seam}
 use Rattle.cbor_head.specs.Prelude.{head, Spelling, no_spellings, no_entries, spell, spell_entries, entries_count}
 use Rattle.cbor_head.specs.declared.major.Major.TheVariants.{Map}
-use Rattle.theory_verdicts.specs.Frame.{Frame, a_member, a_key, a_content, tagged, plug, before, behind}
+use Rattle.theory_verdicts.specs.Frame.{Frame, a_member, a_key, a_content, tagged, plug, before, following}
 use Rattle.theory_verdicts.proofs.{Members.closes, Frames.spell_plug}
-use Rattle.cbor_strict.specs.inner.LastKeys.{AreDefinite, still_open, ended_item, KeysView, is_key, stands_in_key, keys_around, expected_of, levels_of, complete_key, kept_bytes, kept_before, spans_in, spans_of, IsKept, IsFull}
+use Rattle.cbor_strict.specs.inner.LastKeys.{AreDefinite, still_open, ended_item, KeysView, is_key, within_key, keys_around, expected_of, levels_of, complete_key, kept_bytes, kept_before, spans_in, spans_of, IsKept, IsFull}
 use Rattle.cbor_strict.proofs.KeptKeys.{in_some_key, in_no_key, few_keys, kept_if_in, kept_if_out, kept_out, no_map}
 use Rattle.cbor_strict.specs.declared.last_keys.{Expected.Expected, Expected.TheVariants.Member, KeySpan.KeySpan}
 
 -- ---- one closes
 
-nothing_behind : (f : Frame) → IsFull f → behind f ≡ []
-nothing_behind (a_member w a no_spellings) h = closes w h
-nothing_behind (a_content w a k no_entries) h = closes w h
-nothing_behind (tagged w n) h = refl
-nothing_behind _ h = absurd h
+nothing_following : (f : Frame) → IsFull f → following f ≡ []
+nothing_following (a_member w a no_spellings) h = closes w h
+nothing_following (a_content w a k no_entries) h = closes w h
+nothing_following (tagged w n) h = refl
+nothing_following _ h = absurd h
 
 -- the bytes of a container whose last item this is
 pub full_bytes : (f : Frame) (s : Spelling) → IsFull f → spell (plug f s) ≡ before f ++ spell s
-full_bytes f s h = spell_plug f s ∙ ap (λ (x : List ℕ). before f ++ (spell s ++ x)) (nothing_behind f h) ∙ ap (λ (x : List ℕ). before f ++ x) (append-nil (spell s))
+full_bytes f s h = spell_plug f s ∙ ap (λ (x : List ℕ). before f ++ (spell s ++ x)) (nothing_following f h) ∙ ap (λ (x : List ℕ). before f ++ x) (append-nil (spell s))
 
 full_no_key : (f : Frame) → IsFull f → is_key f ≡ false
 full_no_key (a_key w a v b) h = absurd h
@@ -29,10 +29,10 @@ full_around : (f : Frame) (fs : List Frame) → IsFull f → keys_around (f ∷ 
 full_around f fs h = ap (λ (b : Bool). if b then suc (keys_around fs) else keys_around fs) (full_no_key f h)
 
 -- what was stored of it
-closed_in : (f : Frame) (fs : List Frame) (s : Spelling) → IsFull f → stands_in_key fs ≡ true → kept_bytes (f ∷ fs) (spell s) ≡ kept_bytes fs (spell (plug f s))
+closed_in : (f : Frame) (fs : List Frame) (s : Spelling) → IsFull f → within_key fs ≡ true → kept_bytes (f ∷ fs) (spell s) ≡ kept_bytes fs (spell (plug f s))
 closed_in f fs s h i = kept_if_in f fs (spell s) i ∙ ap (kept_bytes fs) (sym (full_bytes f s h))
 
-closed_out : (f : Frame) (fs : List Frame) (s : Spelling) → IsFull f → stands_in_key fs ≡ false → kept_bytes (f ∷ fs) (spell s) ≡ kept_bytes fs [] ++ (complete_key f ++ [])
+closed_out : (f : Frame) (fs : List Frame) (s : Spelling) → IsFull f → within_key fs ≡ false → kept_bytes (f ∷ fs) (spell s) ≡ kept_bytes fs [] ++ (complete_key f ++ [])
 closed_out f fs s h i = kept_if_out f fs (spell s) i ∙ ap (λ (b : Bool). kept_bytes fs [] ++ (complete_key f ++ (if b then spell s else []))) (full_no_key f h)
 
 -- ---- the innermost container
@@ -54,7 +54,7 @@ closes_other k f fs s ls l full h e d =
     record {
       levels = top.0;
       spans = h.spans ∙ ap (λ (x : List KeySpan). spans_of fs ++ x) none.2 ∙ append-nil (spans_of fs);
-      bytes = h.bytes ∙ elim (cases_Bool (stands_in_key fs)) [
+      bytes = h.bytes ∙ elim (cases_Bool (within_key fs)) [
         | inl i ↦ closed_in f fs s full i
         | inr i ↦ closed_out f fs s full i ∙ ap (λ (x : List ℕ). kept_bytes fs [] ++ (x ++ [])) none.0 ∙ append-nil (kept_bytes fs []) ∙ kept_out fs [] (spell (plug f s)) i
       ];
@@ -62,7 +62,7 @@ closes_other k f fs s ls l full h e d =
     }
 
 -- a map, and where its last key is stored
-full_map : (f : Frame) (fs : List Frame) → IsFull f → expected_of f ≢ Member → (sp : KeySpan) × (spans_in f fs ≡ sp ∷ []) × (stands_in_key fs ≡ false → sp.from ≡ kept_before fs)
+full_map : (f : Frame) (fs : List Frame) → IsFull f → expected_of f ≢ Member → (sp : KeySpan) × (spans_in f fs ≡ sp ∷ []) × (within_key fs ≡ false → sp.from ≡ kept_before fs)
 full_map (a_content w a k no_entries) fs full d =
     (_, refl, λ i. ap (λ (b : Bool). kept_before fs + (if b then length (head Map w (entries_count a + 1) ++ spell_entries a) else 0)) i ∙ omega arith)
 full_map (a_member w a b) fs full d = absurd (d refl)
@@ -74,7 +74,7 @@ module _ (k : KeysView) (f : Frame) (fs : List Frame) (s : Spelling) (ls : List 
   top : (ls ≡ levels_of fs) × (l ≡ expected_of f)
   top = top_level k f fs (spell s) h ls l e
 
-  place : (t : KeySpan) × (spans_in f fs ≡ t ∷ []) × (stands_in_key fs ≡ false → t.from ≡ kept_before fs)
+  place : (t : KeySpan) × (spans_in f fs ≡ t ∷ []) × (within_key fs ≡ false → t.from ≡ kept_before fs)
   place = full_map f fs full (λ x. d (top.1 ∙ x))
 
   last : (ss ≡ spans_of fs) × (sp ≡ place.0)
@@ -88,7 +88,7 @@ module _ (k : KeysView) (f : Frame) (fs : List Frame) (s : Spelling) (ls : List 
 
   pub closes_map_out : k.open_keys ≡ 0 → IsKept (record k { levels = ls; spans = ss; bytes = take sp.from k.bytes }) fs (spell (plug f s))
   closes_map_out outside =
-      let i : stands_in_key fs ≡ false = in_no_key fs (sym around ∙ outside) in
+      let i : within_key fs ≡ false = in_no_key fs (sym around ∙ outside) in
       let from : sp.from ≡ kept_before fs = ap (λ (x : KeySpan). x.from) last.1 ∙ place.2 i in
       record {
         levels = top.0;

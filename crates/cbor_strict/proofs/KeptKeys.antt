@@ -5,17 +5,17 @@ use Rattle.std.proofs.lemmas.Bool.{cases_Bool}
 use Rattle.cbor_head.specs.Prelude.{head, Spelling, SpelledEntries, no_entries, entries_count}
 use Rattle.cbor_head.specs.declared.{major.Major.TheVariants.Map, width.Width.Width}
 use Rattle.theory_verdicts.specs.Frame.{Frame, a_member, a_key, tagged, before}
-use Rattle.cbor_strict.specs.inner.LastKeys.{KeysView, is_key, stands_in_key, keys_around, expected_of, levels_of, complete_key, kept_bytes, kept_before, span, spans_in, spans_of, IsKept}
+use Rattle.cbor_strict.specs.inner.LastKeys.{KeysView, is_key, within_key, keys_around, expected_of, levels_of, complete_key, kept_bytes, kept_before, span, spans_in, spans_of, IsKept}
 use Rattle.cbor_strict.specs.declared.last_keys.{Expected.Expected, Expected.TheVariants.Member, Expected.TheVariants.Key, KeySpan.KeySpan}
 
 -- ---- in a key, or not
 
-pub in_some_key : (fs : List Frame) → 0 < keys_around fs → stands_in_key fs ≡ true
+pub in_some_key : (fs : List Frame) → 0 < keys_around fs → within_key fs ≡ true
 in_some_key [] l = absurd (omega (arith, l))
 in_some_key (a_key w a v b ∷ fs) l = refl
 in_some_key (_ ∷ fs) l = in_some_key fs l
 
-pub in_no_key : (fs : List Frame) → keys_around fs ≡ 0 → stands_in_key fs ≡ false
+pub in_no_key : (fs : List Frame) → keys_around fs ≡ 0 → within_key fs ≡ false
 in_no_key [] e = refl
 in_no_key (a_key w a v b ∷ fs) e = absurd (omega (arith, e))
 in_no_key (_ ∷ fs) e = in_no_key fs e
@@ -29,20 +29,20 @@ pub none_open : (n : ℕ) (inside : Bool) → IsTrue inside ↔ (0 < n) → insi
 none_open zero inside h e = refl
 none_open (suc n) inside h e = absurd (true≢false (sym (h.1 (omega arith)) ∙ e))
 
-pub kept_if_in : (f : Frame) (fs : List Frame) (p : List ℕ) → stands_in_key fs ≡ true → kept_bytes (f ∷ fs) p ≡ kept_bytes fs (before f ++ p)
+pub kept_if_in : (f : Frame) (fs : List Frame) (p : List ℕ) → within_key fs ≡ true → kept_bytes (f ∷ fs) p ≡ kept_bytes fs (before f ++ p)
 kept_if_in f fs p e = ap (λ (b : Bool). if b then kept_bytes fs (before f ++ p) else kept_bytes fs [] ++ (complete_key f ++ (if is_key f then p else []))) e
 
-pub kept_if_out : (f : Frame) (fs : List Frame) (p : List ℕ) → stands_in_key fs ≡ false → kept_bytes (f ∷ fs) p ≡ kept_bytes fs [] ++ (complete_key f ++ (if is_key f then p else []))
+pub kept_if_out : (f : Frame) (fs : List Frame) (p : List ℕ) → within_key fs ≡ false → kept_bytes (f ∷ fs) p ≡ kept_bytes fs [] ++ (complete_key f ++ (if is_key f then p else []))
 kept_if_out f fs p e = ap (λ (b : Bool). if b then kept_bytes fs (before f ++ p) else kept_bytes fs [] ++ (complete_key f ++ (if is_key f then p else []))) e
 
 -- a container that is no key
-stands_around : (f : Frame) (fs : List Frame) → is_key f ≡ false → stands_in_key (f ∷ fs) ≡ stands_in_key fs
-stands_around f fs e = ap (λ (b : Bool). if b then true else stands_in_key fs) e
+in_key_around : (f : Frame) (fs : List Frame) → is_key f ≡ false → within_key (f ∷ fs) ≡ within_key fs
+in_key_around f fs e = ap (λ (b : Bool). if b then true else within_key fs) e
 
 -- what is stored of more bytes
-pub kept_in_key : (fs : List Frame) (p q : List ℕ) → stands_in_key fs ≡ true → kept_bytes fs (p ++ q) ≡ kept_bytes fs p ++ q
+pub kept_in_key : (fs : List Frame) (p q : List ℕ) → within_key fs ≡ true → kept_bytes fs (p ++ q) ≡ kept_bytes fs p ++ q
 kept_in_key [] p q e = absurd (true≢false (sym e))
-kept_in_key (f ∷ fs) p q e = elim (cases_Bool (stands_in_key fs)) [
+kept_in_key (f ∷ fs) p q e = elim (cases_Bool (within_key fs)) [
   | inl i ↦
       kept_if_in f fs (p ++ q) i ∙ ap (kept_bytes fs) (sym (append_assoc (before f) p q)) ∙ kept_in_key fs (before f ++ p) q i
       ∙ ap (λ (x : List ℕ). x ++ q) (sym (kept_if_in f fs p i))
@@ -53,21 +53,21 @@ kept_in_key (f ∷ fs) p q e = elim (cases_Bool (stands_in_key fs)) [
         ∙ ap (λ (x : List ℕ). kept_bytes fs [] ++ x) (sym (append_assoc (complete_key f) p q))
         ∙ sym (append_assoc (kept_bytes fs []) (complete_key f ++ p) q)
         ∙ ap (λ (x : List ℕ). x ++ q) (sym (kept_if_out f fs p i ∙ ap (λ (b : Bool). kept_bytes fs [] ++ (complete_key f ++ (if b then p else []))) k))
-    | inr k ↦ absurd (true≢false (sym e ∙ stands_around f fs k ∙ i))
+    | inr k ↦ absurd (true≢false (sym e ∙ in_key_around f fs k ∙ i))
   ]
 ]
 
-pub kept_out : (fs : List Frame) (p q : List ℕ) → stands_in_key fs ≡ false → kept_bytes fs p ≡ kept_bytes fs q
+pub kept_out : (fs : List Frame) (p q : List ℕ) → within_key fs ≡ false → kept_bytes fs p ≡ kept_bytes fs q
 kept_out [] p q e = refl
 kept_out (f ∷ fs) p q e = elim (cases_Bool (is_key f)) [
-  | inl k ↦ absurd (true≢false (sym (ap (λ (b : Bool). if b then true else stands_in_key fs) k) ∙ e))
+  | inl k ↦ absurd (true≢false (sym (ap (λ (b : Bool). if b then true else within_key fs) k) ∙ e))
   | inr k ↦
-      let i : stands_in_key fs ≡ false = sym (stands_around f fs k) ∙ e in
+      let i : within_key fs ≡ false = sym (in_key_around f fs k) ∙ e in
       kept_if_out f fs p i ∙ ap (λ (b : Bool). kept_bytes fs [] ++ (complete_key f ++ (if b then p else []))) k
       ∙ sym (kept_if_out f fs q i ∙ ap (λ (b : Bool). kept_bytes fs [] ++ (complete_key f ++ (if b then q else []))) k)
 ]
 
-pub kept_size : (fs : List Frame) (p : List ℕ) → stands_in_key fs ≡ true → length (kept_bytes fs p) ≡ kept_before fs + length p
+pub kept_size : (fs : List Frame) (p : List ℕ) → within_key fs ≡ true → length (kept_bytes fs p) ≡ kept_before fs + length p
 kept_size fs p e = ap length (kept_in_key fs [] p e) ∙ length-append (kept_bytes fs []) p
 
 -- ---- the next bytes
@@ -98,7 +98,7 @@ no_map (tagged w n) fs d = (refl, refl, refl)
 no_map _ fs d = absurd (cc d)
 
 opened_bytes : (f : Frame) (fs : List Frame) (p : List ℕ) → complete_key f ++ (if is_key f then [] else []) ≡ [] → before f ≡ p → kept_bytes fs p ≡ kept_bytes (f ∷ fs) []
-opened_bytes f fs p none e = elim (cases_Bool (stands_in_key fs)) [
+opened_bytes f fs p none e = elim (cases_Bool (within_key fs)) [
   | inl i ↦ ap (kept_bytes fs) (sym e ∙ sym (append-nil (before f))) ∙ sym (kept_if_in f fs [] i)
   | inr i ↦ kept_out fs p [] i ∙ sym (append-nil (kept_bytes fs [])) ∙ ap (λ (x : List ℕ). kept_bytes fs [] ++ x) (sym none) ∙ sym (kept_if_out f fs [] i)
 ]
@@ -136,8 +136,8 @@ opens_map k w v b fs p here h e g = record {
     at : here ≡ length (kept_bytes fs p)
     at = g ∙ ap length h.bytes
 
-    place : span here here here ≡ span (kept_before fs + (if stands_in_key fs then length hd + 0 else 0)) (kept_before fs + (if stands_in_key fs then length hd + 0 else 0) + 0) (kept_before fs + (if stands_in_key fs then length (hd ++ []) else 0))
-    place = elim (cases_Bool (stands_in_key fs)) [
+    place : span here here here ≡ span (kept_before fs + (if within_key fs then length hd + 0 else 0)) (kept_before fs + (if within_key fs then length hd + 0 else 0) + 0) (kept_before fs + (if within_key fs then length (hd ++ []) else 0))
+    place = elim (cases_Bool (within_key fs)) [
       | inl i ↦
           let there : here ≡ kept_before fs + (length hd + 0) = omega (arith, at, kept_size fs p i, size) in
           rw i (span_is here here here _ _ _ there (omega (arith, there)) (omega (arith, there, length-append hd [])))

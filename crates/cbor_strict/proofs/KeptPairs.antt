@@ -6,7 +6,7 @@ use Rattle.cbor_head.specs.Prelude.{head, Spelling, SpelledEntries, no_entries, 
 use Rattle.cbor_head.specs.declared.{major.Major.TheVariants.Map, width.Width.Width}
 use Rattle.theory_verdicts.specs.Frame.{Frame, a_key, a_content, with_entries, before}
 use Rattle.theory_verdicts.{specs.LastKey.last_key, proofs.OpenSteps.content_before, proofs.OpenSteps.pair_count, proofs.LastKey.last_key_with}
-use Rattle.cbor_strict.specs.inner.LastKeys.{KeysView, stands_in_key, keys_around, levels_of, before_last, kept_bytes, kept_before, span, spans_of, with_last, with_key, IsKept, HasKeyEnded}
+use Rattle.cbor_strict.specs.inner.LastKeys.{KeysView, within_key, keys_around, levels_of, before_last, kept_bytes, kept_before, span, spans_of, with_last, with_key, IsKept, HasKeyEnded}
 use Rattle.cbor_strict.proofs.KeptKeys.{in_some_key, in_no_key, kept_if_in, kept_if_out, kept_in_key, kept_size, span_is}
 use Rattle.cbor_strict.specs.declared.last_keys.{Expected.TheVariants.Key, Expected.TheVariants.Value, KeySpan.KeySpan}
 
@@ -88,10 +88,10 @@ module _ (k : KeysView) (w : Width) (a : SpelledEntries) (v : Spelling) (b : Spe
       span (kept_before fs + (if i then length hd + before_last a else 0)) (kept_before fs + (if i then length hd + before_last a else 0) + length (last_key a))
       (kept_before fs + (if i then length (hd ++ spell_entries a) else length (last_key a)))
 
-  span_so : sp ≡ sp_of (stands_in_key fs)
-  span_so = last_is k.spans (spans_of fs) sp (sp_of (stands_in_key fs)) h.spans g
+  span_so : sp ≡ sp_of (within_key fs)
+  span_so = last_is k.spans (spans_of fs) sp (sp_of (within_key fs)) h.spans g
 
-  places_in : stands_in_key fs ≡ true → KeyPlaces k.bytes (last_key a) (spell s) sp
+  places_in : within_key fs ≡ true → KeyPlaces k.bytes (last_key a) (spell s) sp
   places_in i =
       let q = last_place a in
       let x = kept_bytes fs [] in
@@ -110,7 +110,7 @@ module _ (k : KeysView) (w : Width) (a : SpelledEntries) (v : Spelling) (b : Spe
         next = ap (λ (y : KeySpan). y.next) is ∙ omega (arith, prefix, size, length-append (hd ++ q.prefix) (last_key a ++ q.rest), length-append hd q.prefix, length-append (last_key a) q.rest, q.size);
       }
 
-  places_out : stands_in_key fs ≡ false → KeyPlaces k.bytes (last_key a) (spell s) sp
+  places_out : within_key fs ≡ false → KeyPlaces k.bytes (last_key a) (spell s) sp
   places_out i =
       let is : sp ≡ sp_of false = span_so ∙ ap sp_of i in
       record {
@@ -123,7 +123,7 @@ module _ (k : KeysView) (w : Width) (a : SpelledEntries) (v : Spelling) (b : Spe
       }
 
   key_places : KeyPlaces k.bytes (last_key a) (spell s) sp
-  key_places = elim (cases_Bool (stands_in_key fs)) [ inl i ↦ places_in i | inr i ↦ places_out i ]
+  key_places = elim (cases_Bool (within_key fs)) [ inl i ↦ places_in i | inr i ↦ places_out i ]
 
   pub key_bounds : (sp.from ≤ sp.to) × (sp.to ≤ sp.next) × (sp.next + length (spell s) ≡ length k.bytes)
   key_bounds = places_bounds k.bytes (last_key a) (spell s) sp key_places
@@ -138,9 +138,9 @@ module _ (k : KeysView) (w : Width) (a : SpelledEntries) (v : Spelling) (b : Spe
       let from = kept_before fs + (if q then length (hd ++ spell_entries a) else 0) in
       span from (from + length (spell s)) (from + length (spell s))
 
-  spans_put : (q : Bool) (from to : ℕ) → stands_in_key fs ≡ q → span from to to ≡ of_value q → slice_set k.spans (length k.spans - 1) (span from to to) ≡ spans_of fs ++ of_value (stands_in_key fs) ∷ []
+  spans_put : (q : Bool) (from to : ℕ) → within_key fs ≡ q → span from to to ≡ of_value q → slice_set k.spans (length k.spans - 1) (span from to to) ≡ spans_of fs ++ of_value (within_key fs) ∷ []
   spans_put q from to i is =
-      put_last k.spans (spans_of fs) (sp_of (stands_in_key fs)) (span from to to) h.spans ∙ ap (λ (x : KeySpan). spans_of fs ++ x ∷ []) (is ∙ ap of_value (sym i))
+      put_last k.spans (spans_of fs) (sp_of (within_key fs)) (span from to to) h.spans ∙ ap (λ (x : KeySpan). spans_of fs ++ x ∷ []) (is ∙ ap of_value (sym i))
 
   levels_put : slice_set k.levels (length k.levels - 1) Value ≡ levels_of fs ++ Value ∷ []
   levels_put = put_last k.levels (levels_of fs) Key Value h.levels
@@ -148,7 +148,7 @@ module _ (k : KeysView) (w : Width) (a : SpelledEntries) (v : Spelling) (b : Spe
   pub key_put_in : (keys : ℕ) → keys + 1 ≡ k.open_keys → 0 < keys → IsKept (with_key (record k { open_keys = keys }) sp.next) (a_content w a s b ∷ fs) []
   key_put_in keys less inside =
       let so : keys ≡ keys_around fs = omega (arith, less, h.open_keys) in
-      let i : stands_in_key fs ≡ true = in_some_key fs (omega (arith, so, inside)) in
+      let i : within_key fs ≡ true = in_some_key fs (omega (arith, so, inside)) in
       let from : sp.next ≡ kept_before fs + length (hd ++ spell_entries a) = ap (λ (y : KeySpan). y.next) (span_so ∙ ap sp_of i) in
       let to : length k.bytes ≡ kept_before fs + length (hd ++ spell_entries a) + length (spell s) = omega (arith, key_bounds.2, from) in
       record {
@@ -162,7 +162,7 @@ module _ (k : KeysView) (w : Width) (a : SpelledEntries) (v : Spelling) (b : Spe
       → IsKept (with_key (record k { bytes = bytes; open_keys = keys }) sp.from) (a_content w a s b ∷ fs) []
   key_put_out keys bytes less outside made =
       let so : keys ≡ keys_around fs = omega (arith, less, h.open_keys) in
-      let i : stands_in_key fs ≡ false = in_no_key fs (sym so ∙ outside) in
+      let i : within_key fs ≡ false = in_no_key fs (sym so ∙ outside) in
       let is : sp ≡ sp_of false = span_so ∙ ap sp_of i in
       let x = kept_bytes fs [] in
       let from : sp.from ≡ kept_before fs + 0 = ap (λ (y : KeySpan). y.from) is in
@@ -215,8 +215,8 @@ module _ (k : KeysView) (w : Width) (a : SpelledEntries) (key s n m : Spelling) 
       let from = kept_before fs + (if q then length new_head + before_last more else 0) in
       span from (from + length (last_key more)) (kept_before fs + (if q then length (before new_frame) else length (last_key more)))
 
-  old_span_so : sp ≡ old_span (stands_in_key fs)
-  old_span_so = last_is k.spans (spans_of fs) sp (old_span (stands_in_key fs)) h.spans g
+  old_span_so : sp ≡ old_span (within_key fs)
+  old_span_so = last_is k.spans (spans_of fs) sp (old_span (within_key fs)) h.spans g
 
   last_so : last_key more ≡ spell key
   last_so = last_key_with a key s
@@ -224,7 +224,7 @@ module _ (k : KeysView) (w : Width) (a : SpelledEntries) (key s n m : Spelling) 
   bytes_so : before new_frame ≡ before old_frame ++ spell s
   bytes_so = content_before w a key s n m m b
 
-  span_in : stands_in_key fs ≡ true → span sp.from sp.to (length k.bytes) ≡ new_span true
+  span_in : within_key fs ≡ true → span sp.from sp.to (length k.bytes) ≡ new_span true
   span_in i =
       let is : sp ≡ old_span true = old_span_so ∙ ap old_span i in
       let heads : length new_head ≡ length old_head = ap (λ (j : ℕ). length (head Map w j)) (pair_count a key s (entries_count b)) in
@@ -232,7 +232,7 @@ module _ (k : KeysView) (w : Width) (a : SpelledEntries) (key s n m : Spelling) 
       let all : length k.bytes ≡ kept_before fs + length (before new_frame) = ap length (h.bytes ∙ kept_if_in old_frame fs (spell s) i ∙ ap (kept_bytes fs) (sym bytes_so)) ∙ kept_size fs (before new_frame) i in
       span_is sp.from sp.to (length k.bytes) _ _ _ from (omega (arith, ap (λ (y : KeySpan). y.to) is, ap (λ (y : KeySpan). y.from) is, from, ap length last_so)) all
 
-  span_out : stands_in_key fs ≡ false → span sp.from sp.to (length k.bytes) ≡ new_span false
+  span_out : within_key fs ≡ false → span sp.from sp.to (length k.bytes) ≡ new_span false
   span_out i =
       let is : sp ≡ old_span false = old_span_so ∙ ap old_span i in
       let x = kept_bytes fs [] in
@@ -240,11 +240,11 @@ module _ (k : KeysView) (w : Width) (a : SpelledEntries) (key s n m : Spelling) 
       ap length (h.bytes ∙ kept_if_out old_frame fs (spell s) i) ∙ length-append x (spell key ++ []) ∙ ap (λ (y : List ℕ). length x + length y) (append-nil (spell key) ∙ sym last_so) in
       span_is sp.from sp.to (length k.bytes) _ _ _ (ap (λ (y : KeySpan). y.from) is) (ap (λ (y : KeySpan). y.to) is ∙ ap (λ (y : List ℕ). kept_before fs + 0 + length y) (sym last_so)) all
 
-  span_put : span sp.from sp.to (length k.bytes) ≡ new_span (stands_in_key fs)
-  span_put = elim (cases_Bool (stands_in_key fs)) [ inl i ↦ span_in i ∙ ap new_span (sym i) | inr i ↦ span_out i ∙ ap new_span (sym i) ]
+  span_put : span sp.from sp.to (length k.bytes) ≡ new_span (within_key fs)
+  span_put = elim (cases_Bool (within_key fs)) [ inl i ↦ span_in i ∙ ap new_span (sym i) | inr i ↦ span_out i ∙ ap new_span (sym i) ]
 
   bytes_put : kept_bytes (old_frame ∷ fs) (spell s) ≡ kept_bytes (new_frame ∷ fs) []
-  bytes_put = elim (cases_Bool (stands_in_key fs)) [
+  bytes_put = elim (cases_Bool (within_key fs)) [
     | inl i ↦ kept_if_in old_frame fs (spell s) i ∙ ap (kept_bytes fs) (sym bytes_so ∙ sym (append-nil (before new_frame))) ∙ sym (kept_if_in new_frame fs [] i)
     | inr i ↦ kept_if_out old_frame fs (spell s) i ∙ ap (λ (y : List ℕ). kept_bytes fs [] ++ (y ++ [])) (sym last_so) ∙ sym (kept_if_out new_frame fs [] i)
   ]
@@ -253,7 +253,7 @@ module _ (k : KeysView) (w : Width) (a : SpelledEntries) (key s n m : Spelling) 
   pub value_ends : (new : KeysView) (here : ℕ) → here ≡ length k.bytes → new ≡ with_last k Key (span sp.from sp.to here) → IsKept (record new { open_keys = new.open_keys + 1 }) (new_frame ∷ fs) []
   value_ends new here at is = record {
     levels = ap (λ (x : KeysView). x.levels) is ∙ put_last k.levels (levels_of fs) Value Key h.levels;
-    spans = ap (λ (x : KeysView). x.spans) is ∙ put_last k.spans (spans_of fs) (old_span (stands_in_key fs)) (span sp.from sp.to here) h.spans
+    spans = ap (λ (x : KeysView). x.spans) is ∙ put_last k.spans (spans_of fs) (old_span (within_key fs)) (span sp.from sp.to here) h.spans
         ∙ ap (λ (x : KeySpan). spans_of fs ++ x ∷ []) (ap (span sp.from sp.to) at ∙ span_put);
     bytes = ap (λ (x : KeysView). x.bytes) is ∙ h.bytes ∙ bytes_put;
     open_keys = omega (arith, ap (λ (x : KeysView). x.open_keys) is, h.open_keys);

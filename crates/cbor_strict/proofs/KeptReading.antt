@@ -12,8 +12,8 @@ use Rattle.theory_verdicts.specs.Frame.{Frame, a_member, a_key, a_content, tagge
 use Rattle.theory_verdicts.specs.OpenMaps.{before_all, ArePath, AreClosedClean}
 use Rattle.theory_verdicts.{specs.LastKey.last_key, specs.Reading.IsAt, specs.Reading.string_major, proofs.ParseState.open-is, proofs.OpenSteps.before_snoc}
 use Rattle.cbor_strict.specs.KeptKeys.{open_maps, open_maps_in, key_bytes, key_bytes_in, key_bytes_in_entries}
-use Rattle.cbor_strict.specs.inner.LastKeys.{view_value, from_outside, is_key, stands_in_key, complete_key, kept_bytes, spans_of, spans_in, IsKept}
-use Rattle.cbor_strict.specs.inner.OpenItems.{frames_in, bytes_before, Stands}
+use Rattle.cbor_strict.specs.inner.LastKeys.{view_value, from_outside, is_key, within_key, complete_key, kept_bytes, spans_of, spans_in, IsKept}
+use Rattle.cbor_strict.specs.inner.OpenItems.{frames_in, bytes_before, Agrees}
 use Rattle.cbor_strict.proofs.KeptCounts.{Counts, AreAround, path_counts, past}
 use Rattle.cbor_strict.proofs.FrameCounts.{one_map, map_count, keys_size}
 use Rattle.cbor_strict.specs.{declared.open_items.OpenItems.OpenItems, inner.StrictEvents.IsLittle}
@@ -79,7 +79,7 @@ spans_counted : (fs : List Frame) → length (spans_of fs) ≡ map_count (from_o
 spans_counted [] = refl
 spans_counted (f ∷ fs) = omega (arith, length-append (spans_of fs) (spans_in f fs), one_span f fs, spans_counted fs, count_snoc (from_outside fs) f)
 
-key_snoc : (gs : List Frame) (f : Frame) → stands_in_key (gs ++ f ∷ []) ≡ stands_in_key (f ∷ gs)
+key_snoc : (gs : List Frame) (f : Frame) → within_key (gs ++ f ∷ []) ≡ within_key (f ∷ gs)
 key_snoc [] f = refl
 key_snoc (a_key w a v b ∷ gs) f = sym (one_true (is_key f))
   where
@@ -88,18 +88,18 @@ key_snoc (a_key w a v b ∷ gs) f = sym (one_true (is_key f))
     one_true false = refl
 key_snoc (_ ∷ gs) f = key_snoc gs f
 
-key_outside : (fs : List Frame) → stands_in_key (from_outside fs) ≡ stands_in_key fs
+key_outside : (fs : List Frame) → within_key (from_outside fs) ≡ within_key fs
 key_outside [] = refl
 key_outside (f ∷ fs) = key_snoc (from_outside fs) f ∙ ap (λ (b : Bool). if is_key f then true else b) (key_outside fs)
 
-snoc_in : (gs : List Frame) (f : Frame) (n : ℕ) → stands_in_key gs ≡ true → keys_size (gs ++ f ∷ []) n ≡ keys_size gs (length (before f) + n)
+snoc_in : (gs : List Frame) (f : Frame) (n : ℕ) → within_key gs ≡ true → keys_size (gs ++ f ∷ []) n ≡ keys_size gs (length (before f) + n)
 snoc_in [] f n e = absurd (true≢false (sym e))
 snoc_in (a_key w a v b ∷ gs) f n e = omega (arith, ap length (before_snoc gs f), length-append (before_all gs) (before f))
 snoc_in (a_member w a b ∷ gs) f n e = ap (λ (x : ℕ). 0 + x) (snoc_in gs f n e)
 snoc_in (a_content w a k b ∷ gs) f n e = ap (λ (x : ℕ). length (spell k) + x) (snoc_in gs f n e)
 snoc_in (tagged w k ∷ gs) f n e = ap (λ (x : ℕ). 0 + x) (snoc_in gs f n e)
 
-snoc_out : (gs : List Frame) (f : Frame) (n : ℕ) → stands_in_key gs ≡ false → keys_size (gs ++ f ∷ []) n ≡ keys_size gs 0 + (length (complete_key f) + (if is_key f then n else 0))
+snoc_out : (gs : List Frame) (f : Frame) (n : ℕ) → within_key gs ≡ false → keys_size (gs ++ f ∷ []) n ≡ keys_size gs 0 + (length (complete_key f) + (if is_key f then n else 0))
 snoc_out [] f n e = alone (is_key f) (length (complete_key f))
   where
     alone : (b : Bool) (k : ℕ) → k + (if b then 0 + n else 0) ≡ 0 + (k + (if b then n else 0))
@@ -114,7 +114,7 @@ size_if _ p = refl
 
 kept_counted : (fs : List Frame) (p : List ℕ) → length (kept_bytes fs p) ≡ keys_size (from_outside fs) (length p)
 kept_counted [] p = refl
-kept_counted (f ∷ fs) p = elim (cases_Bool (stands_in_key fs)) [
+kept_counted (f ∷ fs) p = elim (cases_Bool (within_key fs)) [
   | inl i ↦
       ap length (kept_if_in f fs p i) ∙ kept_counted fs (before f ++ p) ∙ ap (keys_size (from_outside fs)) (length-append (before f) p)
       ∙ sym (snoc_in (from_outside fs) f (length p) (key_outside fs ∙ i))
@@ -143,18 +143,18 @@ counted_by v fs p t s k e c = record {
   kept = ap length k.bytes ∙ kept_counted fs p ∙ sym c.keys_are ∙ ap (λ (x : List ℕ). key_bytes (length x) s) (sym e);
 }
 
-pub stands_counted : (v : OpenItems) (b : Bounds) (e : ItemEventsView) (t : List ℕ) → Stands v b e t → (s : Spelling) → StartsWith b.depth s t → IsCounted v (length t) s
-stands_counted v b e t (inl h) s i =
+pub agrees_counted : (v : OpenItems) (b : Bounds) (e : ItemEventsView) (t : List ℕ) → Agrees v b e t → (s : Spelling) → StartsWith b.depth s t → IsCounted v (length t) s
+agrees_counted v b e t (inl h) s i =
     let none = append-nil (bytes_before h.fs) in
     counted_by v h.fs [] t s h.kept (h.taken ∙ sym none)
     (path_counts (from_outside h.fs) [] (around_path v.order h.around.are.left (from_outside h.fs) 0 h.around.are.path h.around.are.closed) none_read s [] i.0 i.1.spelled
     (append-nil (spell s) ∙ i.1.bytes_are ∙ ap (λ (x : List ℕ). x ++ i.0) (h.taken ∙ sym none)))
-stands_counted v b e t (inr (inl h)) s i =
+agrees_counted v b e t (inr (inl h)) s i =
     let p = head (string_major v.is_text) h.w h.n ++ h.q in
     counted_by v h.fs p t s h.kept h.taken
     (path_counts (from_outside h.fs) p (around_path v.order h.around.are.left (from_outside h.fs) 0 h.around.are.path h.around.are.closed) (in_string v.is_text h.w h.n h.q h.holds (omega (arith, h.count, h.some))) s [] i.0 i.1.spelled
     (append-nil (spell s) ∙ i.1.bytes_are ∙ ap (λ (x : List ℕ). x ++ i.0) h.taken))
-stands_counted v b e t (inr (inr h)) s i =
+agrees_counted v b e t (inr (inr h)) s i =
     let same : s ≡ h.item = (unique s h.item i.1.spelled h.spelled [] i.0 (append-nil (spell s) ∙ i.1.bytes_are ∙ ap (λ (x : List ℕ). x ++ i.0) h.taken)).0 in
     let size : length (spell s) ≤ length t = omega (arith, ap (λ (x : Spelling). length (spell x)) same, ap length h.taken) in
     let none = past s (length t) size in
@@ -182,14 +182,14 @@ little : (v : OpenItems) (b : Bounds) (e : ItemEventsView) (t : List ℕ) (fs : 
 little v b e t fs p q k is at all = record {
   levels = omega (arith, kept_levels (view_value v.keys) fs p k, open-is b e t q at, all, frames_length fs);
   spans = omega (arith, kept_spans (view_value v.keys) fs p k, open-is b e t q at, all, frames_length fs);
-  kept = omega (arith, ap length k.bytes, kept_counted fs p, keys_within (from_outside fs) (length p), at.stands.stands.taken, ap length is, length-append (bytes_before fs) p);
+  kept = omega (arith, ap length k.bytes, kept_counted fs p, keys_within (from_outside fs) (length p), at.agrees.agrees.taken, ap length is, length-append (bytes_before fs) p);
 }
 
-pub stands_little : (v : OpenItems) (b : Bounds) (e : ItemEventsView) (t : List ℕ) → Stands v b e t → IsLittle v e
-stands_little v b e t (inl h) = little v b e t h.fs [] (at_item (frames_in h.fs)) h.kept (h.taken ∙ sym (append-nil (bytes_before h.fs))) h.at refl
-stands_little v b e t (inr (inl h)) = little v b e t h.fs (head (string_major v.is_text) h.w h.n ++ h.q) _ h.kept h.taken h.at (payload_stack (string_major v.is_text) v.left (frames_in h.fs) h.some)
+pub agrees_little : (v : OpenItems) (b : Bounds) (e : ItemEventsView) (t : List ℕ) → Agrees v b e t → IsLittle v e
+agrees_little v b e t (inl h) = little v b e t h.fs [] (at_item (frames_in h.fs)) h.kept (h.taken ∙ sym (append-nil (bytes_before h.fs))) h.at refl
+agrees_little v b e t (inr (inl h)) = little v b e t h.fs (head (string_major v.is_text) h.w h.n ++ h.q) _ h.kept h.taken h.at (payload_stack (string_major v.is_text) v.left (frames_in h.fs) h.some)
   where
     payload_stack : (m : Major) (n : ℕ) (fs : List Container) → 0 < n → length (open_at (payload false m n fs)) ≡ length fs
     payload_stack m zero fs l = absurd (omega (arith, l))
     payload_stack m (suc n) fs l = refl
-stands_little v b e t (inr (inr h)) = record { levels = omega (arith, ap length h.kept.levels); spans = omega (arith, ap length h.kept.spans); kept = omega (arith, ap length h.kept.bytes) }
+agrees_little v b e t (inr (inr h)) = record { levels = omega (arith, ap length h.kept.levels); spans = omega (arith, ap length h.kept.spans); kept = omega (arith, ap length h.kept.bytes) }

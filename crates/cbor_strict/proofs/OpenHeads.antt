@@ -20,7 +20,7 @@ use Rattle.theory_verdicts.proofs.Steps.{head-size, fault_of, at-reached}
 use Rattle.theory_verdicts.{specs.OpenMaps.AreOpen, specs.OpenMaps.AreOpenDistinct, specs.Judged.Never, proofs.Scalars.at-as, proofs.Undecided.mark-undecided}
 use Rattle.theory_verdicts.proofs.WholeStrings.{string-head, string-expected}
 use Rattle.cbor_strict.specs.inner.LastKeys.{view_value, from_outside, expected_of, IsKept}
-use Rattle.cbor_strict.specs.inner.OpenItems.{AreOpenClean, frames_in, bytes_before, Stands, HasEnded, HasHeadCome, HasBegunIn, IsLeaf, IsMap, IsOther, GoesOn}
+use Rattle.cbor_strict.specs.inner.OpenItems.{AreOpenClean, frames_in, bytes_before, Agrees, HasEnded, HasHeadCome, HasBegunIn, IsLeaf, IsMap, IsOther, GoesOn}
 use Rattle.cbor_strict.proofs.OpenBegins.{lift, no_break, no_openers, leaf_reads, HasOpened, other_opens, pairs_open}
 use Rattle.cbor_strict.specs.{StrictReader.IsMapHead, declared.last_keys.Expected.TheVariants.Member, declared.last_keys.LastKeys.LastKeys}
 use Rattle.cbor_strict.{specs.declared.open_items.OpenItems.OpenItems, proofs.KeptEnds.kept_keys, proofs.KeptEnds.kept_levels}
@@ -49,7 +49,7 @@ pub refused_head : (v : OpenItems) (b : Bounds) (event : Event) (m : Major) (k :
     → IsHeadFault event.width k reason → taken ≡ e.machine.taken → f ≡ refusal reason event.place taken → AreRefused (strict v.order) b (t ++ x) to f
 refused_head v b event m k t x e reason f taken to mark h head_fault all is =
     let fault = subst (λ (y : Mark). IsFault (strict v.order) y reason) (sym mark) (refl, head_fault) in
-    let size : taken ≡ length t + length x = all ∙ h.at.stands.stands.taken ∙ length-append t x in
+    let size : taken ≡ length t + length x = all ∙ h.at.agrees.agrees.taken ∙ length-append t x in
     let f_is : f ≡ refusal reason (length t) (length t + length x) = is ∙ ap (λ (n : ℕ). refusal reason n taken) h.place ∙ ap (refusal reason (length t)) size in
     let c = complaint.complaint (length t + length x) (length t) reason in
     let of = head-size b.depth (at_item (frames_in h.fs)) h.next (mark_of event.width event.kind) x (strict v.order) (length t) reason h.taking fault in
@@ -96,7 +96,7 @@ begun_in v b event m n t x e is h fine = record {
 pub begun_no_memory : (v : OpenItems) (b : Bounds) (w : Width) (kind : EventKind) (t x : List ℕ) (e : ItemEventsView) (f : Refusal) (taken : ℕ) (to : Option (List ℕ)) (fs : List Frame) → AreOpenClean v b fs → t ≡ bytes_before fs
     → IsBegun (strict v.order) b (frames_in fs) t x e w kind → taken ≡ e.machine.taken → f ≡ refusal Memory taken taken → AreRefused (strict v.order) b (t ++ x) to f
 begun_no_memory v b w kind t x e f taken to fs around before i all is =
-    memory_part v.order b fs around.are around.distinct x (t ++ x) to f taken (ap (λ (y : List ℕ). y ++ x) before) (all ∙ i.at.stands.stands.taken) is (at-reached b e (t ++ x) i.next i.at)
+    memory_part v.order b fs around.are around.distinct x (t ++ x) to f taken (ap (λ (y : List ℕ). y ++ x) before) (all ∙ i.at.agrees.agrees.taken) is (at-reached b e (t ++ x) i.next i.at)
     (mark-undecided (strict v.order) b (frames_in fs) (bytes_before fs) x (mark_of w kind) i.next i.taking)
 
 -- what is stored now
@@ -123,7 +123,7 @@ same_bytes t x y more n e g is =
 module _ (v : OpenItems) (b : Bounds) (w : Width) (kind : EventKind) (t x : List ℕ) (e : ItemEventsView) (h : HasBegunIn v b w kind t x e) where
   read_ended : (u : Value) → ReadsItem (strict v.order) b (frames_in h.fs) t x None None e u → HasEnded v b e (t ++ x)
   read_ended u m =
-      let same : spell m.item ≡ x = same_bytes t x (spell m.item) m.taken.more e.machine.taken (h.begun.at.stands.stands.taken) (m.at.stands.stands.taken) m.taken.are in
+      let same : spell m.item ≡ x = same_bytes t x (spell m.item) m.taken.more e.machine.taken (h.begun.at.agrees.agrees.taken) (m.at.agrees.agrees.taken) m.taken.are in
       record {
         fs = h.fs;
         around = h.around;
@@ -143,7 +143,7 @@ leaf_ended v b w kind t x e h l = let r = leaf_reads v.order b (frames_in h.fs) 
 -- ---- a string opens
 
 pub string_begun : (v new : OpenItems) (b : Bounds) (w : Width) (kind : EventKind) (t x : List ℕ) (e : ItemEventsView) (is_text : Bool) (n : ℕ) → HasBegunIn v b w kind t x e → kind ≡ string_kind is_text (Some n) → 0 < n
-    → new.order ≡ v.order → new.keys ≡ v.keys → new.left ≡ n → new.is_text ≡ is_text → HasChecked new.check [] → Stands new b e (t ++ x)
+    → new.order ≡ v.order → new.keys ≡ v.keys → new.left ≡ n → new.is_text ≡ is_text → HasChecked new.check [] → Agrees new b e (t ++ x)
 string_begun v new b w kind t x e is_text n h is some same_order same_keys left text_so checked =
     let i = subst (IsBegun (strict v.order) b (frames_in h.fs) t x e w) is h.begun in
     let k = string-head (strict v.order) b (frames_in h.fs) t x e w is_text n i in
@@ -171,7 +171,7 @@ string_begun v new b w kind t x e is_text n h is some same_order same_keys left 
 -- ---- a container opens
 
 opened_in : (v new : OpenItems) (b : Bounds) (w : Width) (kind : EventKind) (t x : List ℕ) (e : ItemEventsView) (h : HasBegunIn v b w kind t x e) (f : Frame) → new.order ≡ v.order → new.left ≡ v.left → HasOpened v.order b h.fs t x e f
-    → IsKept (view_value new.keys) (f ∷ h.fs) [] → Stands new b e (t ++ x)
+    → IsKept (view_value new.keys) (f ∷ h.fs) [] → Agrees new b e (t ++ x)
 opened_in v new b w kind t x e h f same_order same_left m kept = inl (record {
   fs = f ∷ h.fs;
   around = around_as v.order new b (f ∷ h.fs) (sym same_order) m.are m.distinct;
@@ -182,13 +182,13 @@ opened_in v new b w kind t x e h f same_order same_left m kept = inl (record {
 })
 
 pub other_begun : (v new : OpenItems) (b : Bounds) (w : Width) (kind : EventKind) (t x : List ℕ) (e : ItemEventsView) → HasBegunIn v b w kind t x e → IsOther (mark_of w kind) → new.order ≡ v.order → new.left ≡ v.left
-    → ((f : Frame) (fs : List Frame) (p : List ℕ) → expected_of f ≡ Member → IsKept (view_value v.keys) fs p → before f ≡ p → IsKept (view_value new.keys) (f ∷ fs) []) → Stands new b e (t ++ x)
+    → ((f : Frame) (fs : List Frame) (p : List ℕ) → expected_of f ≡ Member → IsKept (view_value v.keys) fs p → before f ≡ p → IsKept (view_value new.keys) (f ∷ fs) []) → Agrees new b e (t ++ x)
 other_begun v new b w kind t x e h l same_order same_left step =
     let (f, expected, m) = other_opens v.order b h.fs t x e w h.around.are h.around.distinct h.taken kind h.begun l in
     opened_in v new b w kind t x e h f same_order same_left m (step f h.fs x expected h.kept m.head_is)
 
 pub map_begun : (v new : OpenItems) (b : Bounds) (w : Width) (kind : EventKind) (t x : List ℕ) (e : ItemEventsView) → HasBegunIn v b w kind t x e → IsMap (mark_of w kind) → new.order ≡ v.order → new.left ≡ v.left
-    → ((w : Width) (u : Spelling) (es : SpelledEntries) (fs : List Frame) (p : List ℕ) → IsKept (view_value v.keys) fs p → before (a_key w no_entries u es) ≡ p → IsKept (view_value new.keys) (a_key w no_entries u es ∷ fs) []) → Stands new b e (t ++ x)
+    → ((w : Width) (u : Spelling) (es : SpelledEntries) (fs : List Frame) (p : List ℕ) → IsKept (view_value v.keys) fs p → before (a_key w no_entries u es) ≡ p → IsKept (view_value new.keys) (a_key w no_entries u es ∷ fs) []) → Agrees new b e (t ++ x)
 map_begun v new b w kind t x e h l same_order same_left step =
     let (u, es, m) = pairs_open v.order b h.fs t x e w h.around.are h.around.distinct h.taken kind h.begun l in
     opened_in v new b w kind t x e h (a_key w no_entries u es) same_order same_left m (step w u es h.fs x h.kept m.head_is)

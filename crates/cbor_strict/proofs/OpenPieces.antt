@@ -10,7 +10,7 @@ use Rattle.theory_verdicts.specs.Reading.{AreRefused, IsAt, string_major}
 use Rattle.theory_verdicts.proofs.WholeStrings.{StringHead, made_of, made-spells, made-spelled, made-flat, made-clean, string-undecided, text-judged}
 use Rattle.theory_verdicts.{specs.Place.close, specs.Place.payload, specs.Frame.Frame, specs.Judged.Never, proofs.Scalars.at-as, proofs.Steps.at-reached}
 use Rattle.theory_verdicts.proofs.Undecided.{is-part}
-use Rattle.cbor_strict.specs.inner.OpenItems.{frames_in, bytes_before, Stands, HasEnded, HasPartCome}
+use Rattle.cbor_strict.specs.inner.OpenItems.{frames_in, bytes_before, Agrees, HasEnded, HasPartCome}
 use Rattle.cbor_strict.specs.{declared.last_keys.LastKeys.LastKeys, declared.open_items.OpenItems.OpenItems, inner.LastKeys.view_value, inner.LastKeys.IsKept}
 use Rattle.cbor_strict.proofs.{OpenHeads.refused_part, OpenHeads.memory_part, OpenStates.around_as}
 
@@ -30,12 +30,12 @@ module _ (v : OpenItems) (b : Bounds) (old : ItemEventsView) (t x : List ℕ) (e
   -- the payload is among what was taken
   pub part_space : (taken : ℕ) → taken ≡ e.machine.taken → length (h.expected.q ++ x) ≤ taken
   part_space taken all =
-      omega (arith, all, h.at.stands.stands.taken, ap length bytes_so, length-append (bytes_before h.expected.fs) (hd ++ (h.expected.q ++ x)), length-append hd (h.expected.q ++ x))
+      omega (arith, all, h.at.agrees.agrees.taken, ap length bytes_so, length-append (bytes_before h.expected.fs) (hd ++ (h.expected.q ++ x)), length-append hd (h.expected.q ++ x))
 
   pub part_no_memory : (f : Refusal) (taken : ℕ) (to : Option (List ℕ)) → taken ≡ e.machine.taken → f ≡ refusal Memory taken taken → AreRefused (strict v.order) b (t ++ x) to f
   part_no_memory f taken to all is =
       let part = is-part h.expected.n (h.expected.q ++ x) (omega (arith, length-append h.expected.q x, h.some)) (omega (arith, length-append h.expected.q x, h.expected.count, h.fits)) all_bytes in
-      memory_part v.order b h.expected.fs h.expected.around.are h.expected.around.distinct (hd ++ (h.expected.q ++ x)) (t ++ x) to f taken bytes_so (all ∙ h.at.stands.stands.taken) is (at-reached b e (t ++ x) _ h.at)
+      memory_part v.order b h.expected.fs h.expected.around.are h.expected.around.distinct (hd ++ (h.expected.q ++ x)) (t ++ x) to f taken bytes_so (all ∙ h.at.agrees.agrees.taken) is (at-reached b e (t ++ x) _ h.at)
       (string-undecided (strict v.order) b (frames_in h.expected.fs) (bytes_before h.expected.fs) hd h.expected.w v.is_text h.expected.n _ head_is (h.expected.q ++ x) part)
 
   module _ (new : OpenItems) (keys : LastKeys) (same_order : new.order ≡ v.order) (same_keys : new.keys ≡ keys) (same_text : new.is_text ≡ v.is_text) (left : new.left + length x ≡ v.left)
@@ -49,7 +49,7 @@ module _ (v : OpenItems) (b : Bounds) (old : ItemEventsView) (t x : List ℕ) (e
         at-as b e (t ++ x) (t ++ x) _ (payload false (string_major v.is_text) new.left (frames_in h.expected.fs)) refl (ap (λ (n : ℕ). payload false (string_major v.is_text) n (frames_in h.expected.fs)) rest) h.at
 
     -- more is expected
-    pub part_goes_on : 0 < new.left → ((q : List ℕ) → v.is_text ≡ true → HasChecked v.check q → HasChecked new.check (q ++ x)) → Stands new b e (t ++ x)
+    pub part_goes_on : 0 < new.left → ((q : List ℕ) → v.is_text ≡ true → HasChecked v.check q → HasChecked new.check (q ++ x)) → Agrees new b e (t ++ x)
     part_goes_on some checked =
         let heads : head (string_major v.is_text) h.expected.w h.expected.n ≡ head (string_major new.is_text) h.expected.w h.expected.n = ap (λ (y : Bool). head (string_major y) h.expected.w h.expected.n) (sym same_text) in
         inr (inl (record {
@@ -101,7 +101,7 @@ module _ (v : OpenItems) (b : Bounds) (old : ItemEventsView) (t x : List ℕ) (e
         let q = h.expected.q ++ x in
         let y = bytes_before h.expected.fs in
         let cs = frames_in h.expected.fs in
-        let read : taken ≡ length (t ++ x) = all ∙ h.at.stands.stands.taken in
+        let read : taken ≡ length (t ++ x) = all ∙ h.at.agrees.agrees.taken in
         let sized : taken ≡ length (y ++ hd) + length q = omega (arith, read, ap length bytes_so, length-append y (hd ++ q), length-append hd q, length-append y hd) in
         let here : place ≡ length (y ++ hd) + utf8_valid_len q = omega (arith, place_is, sized) in
         refused_part v.order b h.expected.fs h.expected.around.are h.expected.around.distinct (hd ++ q) (t ++ x) to f bytes_so (ap (λ (z : Refusal). z.read) is ∙ read)

@@ -9,8 +9,8 @@ use Rattle.theory_verdicts.specs.Frame.{Frame, a_member, a_key, a_content, with_
 use Rattle.theory_verdicts.specs.{Place.close, LastKey.last_key, Reading.AreRefused, Reading.IsAt, OpenMaps.AreOpen, OpenMaps.AreOpenDistinct, Judged.Never}
 use Rattle.theory_verdicts.proofs.OpenSteps.{member_before}
 use Rattle.cbor_strict.specs.declared.last_keys.Expected.TheVariants.{Member, Key, Value}
-use Rattle.cbor_strict.specs.inner.LastKeys.{view_value, from_outside, stands_in_key, kept_bytes, expected_of, IsKept, AreDefinite, HasKeyEnded, still_open, ended_item}
-use Rattle.cbor_strict.specs.inner.OpenItems.{frames_in, bytes_before, AreOpenClean, Stands, HasEnded}
+use Rattle.cbor_strict.specs.inner.LastKeys.{view_value, from_outside, within_key, kept_bytes, expected_of, IsKept, AreDefinite, HasKeyEnded, still_open, ended_item}
+use Rattle.cbor_strict.specs.inner.OpenItems.{frames_in, bytes_before, AreOpenClean, Agrees, HasEnded}
 use Rattle.cbor_strict.proofs.OpenEnds.{definite_of, outside_length, StaysOpen, none_open, member_open, key_open, value_open, stays_open, EndsClean, open_so, EndsIn, IsExpectedIn, ends_in, member_next, value_next, key_next, key_refused}
 use Rattle.cbor_strict.specs.declared.{last_keys.Expected.Expected, last_keys.LastKeys.LastKeys, open_items.OpenItems.OpenItems}
 use Rattle.cbor_strict.proofs.{KeptKeys.kept_if_in, KeptKeys.kept_if_out, KeptEnds.kept_keys}
@@ -55,8 +55,8 @@ pub around_as : (o : KeyOrder) (new : OpenItems) (b : Bounds) (gs : List Frame) 
 around_as o new b gs e x y =
     record { are = subst (λ (p : KeyOrder). AreOpen (strict p) b.depth (from_outside gs)) e x; distinct = subst (λ (p : KeyOrder). AreOpenDistinct (strict p) 0 (from_outside gs)) e y }
 
-stands_expected : (o : KeyOrder) (new : OpenItems) (b : Bounds) (e : ItemEventsView) (t : List ℕ) (gs : List Frame) → IsExpectedIn o b e t gs → o ≡ new.order → new.left ≡ 0 → IsKept (view_value new.keys) gs [] → Stands new b e t
-stands_expected o new b e t gs d same none kept = inl (record { fs = gs; around = around_as o new b gs same d.are d.distinct; none = none; kept = kept; taken = d.taken; at = d.at })
+agrees_expected : (o : KeyOrder) (new : OpenItems) (b : Bounds) (e : ItemEventsView) (t : List ℕ) (gs : List Frame) → IsExpectedIn o b e t gs → o ≡ new.order → new.left ≡ 0 → IsKept (view_value new.keys) gs [] → Agrees new b e t
+agrees_expected o new b e t gs d same none kept = inl (record { fs = gs; around = around_as o new b gs same d.are d.distinct; none = none; kept = kept; taken = d.taken; at = d.at })
 
 -- a member
 member_kept : (k : LastKeys) (w : Width) (a : Spellings) (s t : Spelling) (b : Spellings) (fs : List Frame) → IsKept (view_value k) (a_member w a (a_spelling t b) ∷ fs) (spell s)
@@ -67,7 +67,7 @@ member_kept k w a s t b fs h =
     record {
       levels = h.levels;
       spans = h.spans;
-      bytes = h.bytes ∙ elim (cases_Bool (stands_in_key fs)) [
+      bytes = h.bytes ∙ elim (cases_Bool (within_key fs)) [
         | inl i ↦ kept_if_in f fs (spell s) i ∙ ap (kept_bytes fs) (sym (member_before w a s t b) ∙ sym (append-nil (before g))) ∙ sym (kept_if_in g fs [] i)
         | inr i ↦ kept_if_out f fs (spell s) i ∙ sym (kept_if_out g fs [] i)
       ];
@@ -75,14 +75,14 @@ member_kept k w a s t b fs h =
     }
 
 -- nothing more, or a member
-pub behind_member : (old new : OpenItems) (keys : LastKeys) (count taken : ℕ) (expected : Expected) (b : Bounds) (e : ItemEventsView) (t : List ℕ) → Closing old keys count taken expected → (h : HasEnded old b e t)
-    → count ≡ e.machine.open_count → expected ≡ Member → new.order ≡ old.order → new.keys ≡ keys → new.left ≡ old.left → Stands new b e t
-behind_member old new keys count taken expected b e t k h c d same_order same_keys same_left = go (still_open h.fs) (ended_item h.fs h.item) (has_closed old keys count taken expected b e t k h c).stays (has_closed old keys count taken expected b e t k h c)
+pub closed_member : (old new : OpenItems) (keys : LastKeys) (count taken : ℕ) (expected : Expected) (b : Bounds) (e : ItemEventsView) (t : List ℕ) → Closing old keys count taken expected → (h : HasEnded old b e t)
+    → count ≡ e.machine.open_count → expected ≡ Member → new.order ≡ old.order → new.keys ≡ keys → new.left ≡ old.left → Agrees new b e t
+closed_member old new keys count taken expected b e t k h c d same_order same_keys same_left = go (still_open h.fs) (ended_item h.fs h.item) (has_closed old keys count taken expected b e t k h c).stays (has_closed old keys count taken expected b e t k h c)
   where
     left_so : new.left ≡ 0
     left_so = same_left ∙ h.none
 
-    go : (gs : List Frame) (s : Spelling) → StaysOpen gs → HasClosed old.order b e t keys gs s → Stands new b e t
+    go : (gs : List Frame) (s : Spelling) → StaysOpen gs → HasClosed old.order b e t keys gs s → Agrees new b e t
     go [] s none_open m =
         inr (inr (record {
           item = s;
@@ -96,25 +96,25 @@ behind_member old new keys count taken expected b e t k h c d same_order same_ke
         }))
     go _ s (member_open w a x c2 gs) m =
         let g = a_member w (with_all a (a_spelling s no_spellings)) c2 in
-        stands_expected old.order new b e t (g ∷ gs) (member_next old.order b e t gs s w a x c2 (ends_of old.order b e t keys _ s m)) (sym same_order) left_so
+        agrees_expected old.order new b e t (g ∷ gs) (member_next old.order b e t gs s w a x c2 (ends_of old.order b e t keys _ s m)) (sym same_order) left_so
         (subst (λ (y : LastKeys). IsKept (view_value y) (g ∷ gs) []) (sym same_keys) (member_kept keys w a s x c2 gs m.kept))
     go _ s (key_open w a v c2 gs) m = absurd (cc (sym d ∙ k.some (a_key w a v c2) gs (spell s) m.kept))
     go _ s (value_open w a key l x c2 gs) m = absurd (cc (sym d ∙ k.some (a_content w a key (entry l x c2)) gs (spell s) m.kept))
 
 -- a value
-pub behind_value : (old new : OpenItems) (keys last : LastKeys) (count taken : ℕ) (expected : Expected) (b : Bounds) (e : ItemEventsView) (t : List ℕ) → Closing old keys count taken expected → (h : HasEnded old b e t)
+pub after_value : (old new : OpenItems) (keys last : LastKeys) (count taken : ℕ) (expected : Expected) (b : Bounds) (e : ItemEventsView) (t : List ℕ) → Closing old keys count taken expected → (h : HasEnded old b e t)
     → count ≡ e.machine.open_count → expected ≡ Value → new.order ≡ old.order → new.keys ≡ last → new.left ≡ old.left
     → ((w : Width) (a : SpelledEntries) (k s l m : Spelling) (b : SpelledEntries) (fs : List Frame) → IsKept (view_value keys) (a_content w a k (entry l m b) ∷ fs) (spell s) → IsKept (view_value last) (a_key w (with_entries a (entry k s no_entries)) m b ∷ fs) [])
-    → Stands new b e t
-behind_value old new keys last count taken expected b e t k h c d same_order same_keys same_left step = go (still_open h.fs) (ended_item h.fs h.item) (has_closed old keys count taken expected b e t k h c).stays (has_closed old keys count taken expected b e t k h c)
+    → Agrees new b e t
+after_value old new keys last count taken expected b e t k h c d same_order same_keys same_left step = go (still_open h.fs) (ended_item h.fs h.item) (has_closed old keys count taken expected b e t k h c).stays (has_closed old keys count taken expected b e t k h c)
   where
-    go : (gs : List Frame) (s : Spelling) → StaysOpen gs → HasClosed old.order b e t keys gs s → Stands new b e t
+    go : (gs : List Frame) (s : Spelling) → StaysOpen gs → HasClosed old.order b e t keys gs s → Agrees new b e t
     go [] s none_open m = absurd (cc (sym d ∙ k.none (spell s) m.kept))
     go _ s (member_open w a x c2 gs) m = absurd (cc (sym d ∙ k.some (a_member w a (a_spelling x c2)) gs (spell s) m.kept))
     go _ s (key_open w a v c2 gs) m = absurd (cc (sym d ∙ k.some (a_key w a v c2) gs (spell s) m.kept))
     go _ s (value_open w a key l x c2 gs) m =
         let g = a_key w (with_entries a (entry key s no_entries)) x c2 in
-        stands_expected old.order new b e t (g ∷ gs) (value_next old.order b e t gs s w a key l x c2 (ends_of old.order b e t keys _ s m)) (sym same_order) (same_left ∙ h.none)
+        agrees_expected old.order new b e t (g ∷ gs) (value_next old.order b e t gs s w a key l x c2 (ends_of old.order b e t keys _ s m)) (sym same_order) (same_left ∙ h.none)
         (subst (λ (y : LastKeys). IsKept (view_value y) (g ∷ gs) []) (sym same_keys) (step w a key s l x c2 gs m.kept))
 
 -- a key, and nothing else
@@ -132,14 +132,14 @@ pub key_has_ended : (old : OpenItems) (keys : LastKeys) (count taken : ℕ) (exp
     → count ≡ e.machine.open_count → expected ≡ Key → HasKeyEnded (view_value keys)
 key_has_ended old keys count taken expected b e t k h c d = by_key old keys count taken expected b e t k h c d (HasKeyEnded (view_value keys)) (λ w a v others gs s m. record { w = w; a = a; v = v; b = others; fs = gs; s = s; kept = m.kept })
 
-pub behind_key : (old new : OpenItems) (keys last : LastKeys) (count taken : ℕ) (expected : Expected) (b : Bounds) (e : ItemEventsView) (t : List ℕ) → Closing old keys count taken expected → (h : HasEnded old b e t)
+pub after_key : (old new : OpenItems) (keys last : LastKeys) (count taken : ℕ) (expected : Expected) (b : Bounds) (e : ItemEventsView) (t : List ℕ) → Closing old keys count taken expected → (h : HasEnded old b e t)
     → count ≡ e.machine.open_count → expected ≡ Key → new.order ≡ old.order → new.keys ≡ last → new.left ≡ old.left
     → ((w : Width) (a : SpelledEntries) (v : Spelling) (b : SpelledEntries) (fs : List Frame) (s : Spelling) → IsKept (view_value keys) (a_key w a v b ∷ fs) (spell s) → IsTrue (key_lt old.order (last_key a) (spell s)) × IsKept (view_value last) (a_content w a s b ∷ fs) [])
-    → Stands new b e t
-behind_key old new keys last count taken expected b e t k h c d same_order same_keys same_left step = by_key old keys count taken expected b e t k h c d (Stands new b e t)
+    → Agrees new b e t
+after_key old new keys last count taken expected b e t k h c d same_order same_keys same_left step = by_key old keys count taken expected b e t k h c d (Agrees new b e t)
     (λ w a v others gs s m.
     let r = step w a v others gs s m.kept in
-    stands_expected old.order new b e t (a_content w a s others ∷ gs) (key_next old.order b e t gs s w a v others (ends_of old.order b e t keys _ s m) r.0) (sym same_order) (same_left ∙ h.none)
+    agrees_expected old.order new b e t (a_content w a s others ∷ gs) (key_next old.order b e t gs s w a v others (ends_of old.order b e t keys _ s m) r.0) (sym same_order) (same_left ∙ h.none)
     (subst (λ (y : LastKeys). IsKept (view_value y) (a_content w a s others ∷ gs) []) (sym same_keys) r.1))
 
 pub refused_key : (old : OpenItems) (keys : LastKeys) (count taken size : ℕ) (expected : Expected) (b : Bounds) (e : ItemEventsView) (t : List ℕ) (f : Refusal) → Closing old keys count taken expected → (h : HasEnded old b e t)
@@ -150,7 +150,7 @@ refused_key old keys count taken size expected b e t f k h c all d step = by_key
     (λ w a v others gs s m.
     let fr = a_key w a v others in
     let r = step w a v others gs s m.kept in
-    let read : taken ≡ length t = all ∙ m.at.stands.stands.taken in
+    let read : taken ≡ length t = all ∙ m.at.agrees.agrees.taken in
     let count_all : taken ≡ length (bytes_before (fr ∷ gs)) + length (spell s) = read ∙ ap length m.taken ∙ length-append (bytes_before (fr ∷ gs)) (spell s) in
     let place : taken - size ≡ length (bytes_before (fr ∷ gs)) = omega (arith, count_all, r.1) in (
       omega (arith, count_all, r.1),

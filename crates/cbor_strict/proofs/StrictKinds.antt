@@ -6,7 +6,7 @@ use Rattle.cbor_head.specs.declared.width.Width.{Width}
 use Rattle.theory_values.proofs.{ReadLaws.length_head, ByteLists.bytes_join}
 use Rattle.theory_verdicts.specs.Kinds.{KeepsToKinds, IsKeyExpected, IsKeyFrame, IsOfOneHead}
 use Rattle.theory_verdicts.proofs.Heads.{open_or, zero_bytes, zero_length}
-use Rattle.theory_verdicts.proofs.KindBytes.{kinds_behind, Begins, string_is_one}
+use Rattle.theory_verdicts.proofs.KindBytes.{kinds_after, Begins, string_is_one}
 use Rattle.theory_verdicts.proofs.KindFrames.{expected_last, IsAround, around_frames, keeps_more}
 use Rattle.theory_verdicts.proofs.WholeStrings.{made_of, made-spells, made-spelled, made-flat}
 use Rattle.theory_verdicts.specs.{Frame.Frame, Frame.a_key, OpenMaps.before_all, OpenMaps.ArePath, Reading.string_major}
@@ -35,7 +35,7 @@ module _ (limits : Bounds) (r : Rules) (fs : List Frame) (left : ℕ) (levels : 
 
   -- further bytes of an item without members
   keeps_further : (x y : List ℕ) → 0 < length x → Begins left (x ++ y) → IsOfOneHead (x ++ y) → KeepsToKinds limits r (before_all fs ++ x) → KeepsToKinds limits r (before_all fs ++ (x ++ y))
-  keeps_further x y some g one keeps = keeps_more limits r around g.item x y g.rest g.spelled g.within g.bytes some (λ c o. inr (kinds_behind g.item g.spelled (x ++ y) g.rest g.bytes one _ c o)) keeps
+  keeps_further x y some g one keeps = keeps_more limits r around g.item x y g.rest g.spelled g.within g.bytes some (λ c o. inr (kinds_after g.item g.spelled (x ++ y) g.rest g.bytes one _ c o)) keeps
 
 -- a string of which a part was read
 string_one : (is_text : Bool) (w : Width) (n : ℕ) (q : List ℕ) → HoldsOrIndefinite w n → IsOfOneHead (head (string_major is_text) w n ++ q)

@@ -14,9 +14,9 @@ use Rattle.cbor_machine.specs.{Machine.KeepsLimits, Machine.IsComplete, NextEven
 use Rattle.theory_verdicts.specs.{Judged.Never, Kinds.KeepsToKinds, Reading.string_major, Place.done as at_end, Reading.IsPrefixUnread, Reading.ReadsItem, Readers.IsRead, Readers.Loses}
 use Rattle.theory_verdicts.proofs.Tops.{loses, known, item-read}
 use Rattle.theory_verdicts.{specs.Refusals.IsReaderReason, proofs.Payloads.IsPayload, proofs.Scalars.at-as}
-use Rattle.theory_verdicts.proofs.RefusedBehind.{stopped_from, stopped_prefix}
-use Rattle.cbor_strict.specs.StrictReader.{StrictEventsView, StandsStrictly, IsNextClean, IsCleanEnd, IsStrictRefusal, limits_of, strict_call}
-use Rattle.cbor_strict.specs.inner.OpenItems.{IsOver, Stands, frames_in}
+use Rattle.theory_verdicts.proofs.RefusedAfter.{stopped_from, stopped_prefix}
+use Rattle.cbor_strict.specs.StrictReader.{StrictEventsView, AgreesStrictly, IsNextClean, IsCleanEnd, IsStrictRefusal, limits_of, strict_call}
+use Rattle.cbor_strict.specs.inner.OpenItems.{IsOver, Agrees, frames_in}
 use Rattle.cbor_strict.{specs.declared.open_items.OpenItems.OpenItems, specs.inner.StrictEvents.bounds_of, proofs.StrictReading.same_bounds}
 use Rattle.cbor_strict.proofs.StrictSteps.{not_over, payload_so}
 
@@ -54,16 +54,16 @@ pub record IsRunning (o : KeyOrder) (b : Bounds) (v : StrictEventsView) (from no
   pub t : List ℕ
   pub marks : List Mark
   pub consumed : Consumes from now t
-  pub stands : StandsStrictly v t marks
+  pub agrees : AgreesStrictly v t marks
   pub order : v.order ≡ o
   pub limits : limits_of v ≡ b
   pub granted : v.refused ≡ false
 
-pub runs_first : (o : KeyOrder) (b : Bounds) (v : StrictEventsView) (from : Option (List ℕ)) → StandsStrictly v [] [] → v.order ≡ o → limits_of v ≡ b → v.refused ≡ false → IsRunning o b v from from
-runs_first o b v from stands order limits granted = record { t = []; marks = []; consumed = Consumes-nil from; stands = stands; order = order; limits = limits; granted = granted }
+pub runs_first : (o : KeyOrder) (b : Bounds) (v : StrictEventsView) (from : Option (List ℕ)) → AgreesStrictly v [] [] → v.order ≡ o → limits_of v ≡ b → v.refused ≡ false → IsRunning o b v from from
+runs_first o b v from agrees order limits granted = record { t = []; marks = []; consumed = Consumes-nil from; agrees = agrees; order = order; limits = limits; granted = granted }
 
 -- where nothing more is reported the item is complete
-over : (v : OpenItems) (b : Bounds) (e : ItemEventsView) (t : List ℕ) → Stands v b e t → IsComplete e.machine → IsOver v b e t
+over : (v : OpenItems) (b : Bounds) (e : ItemEventsView) (t : List ℕ) → Agrees v b e t → IsComplete e.machine → IsOver v b e t
 over v b e t (inl h) c = absurd (not_over b e t _ h.at (λ g. cc g) c)
 over v b e t (inr (inl h)) c = absurd (not_over b e t _ h.at (λ g. subst IsPayload g (payload_so (string_major v.is_text) v.left (frames_in h.fs) h.some)) c)
 over v b e t (inr (inr h)) c = h
@@ -77,7 +77,7 @@ module _ (o : KeyOrder) (b : Bounds) (v new : StrictEventsView) (from now to : O
     t = h.t ++ n.event.bytes;
     marks = h.marks ++ marks_of ev.width ev.kind;
     consumed = Consumes-trans from now to h.t n.event.bytes h.consumed n.event.consumed;
-    stands = n.stands;
+    agrees = n.agrees;
     order = order ∙ h.order;
     limits = runs_limits limits keys;
     granted = granted ∙ h.granted;
@@ -85,15 +85,15 @@ module _ (o : KeyOrder) (b : Bounds) (v new : StrictEventsView) (from now to : O
 
   pub runs_farther : (ev : Event) → IsNextClean ev (strict_call v new now to h.t h.marks) → KeepsLimits v.machine new.machine → new.machine.bytes - new.machine.taken < v.machine.bytes - v.machine.taken
   runs_farther ev n limits =
-      omega (arith, h.stands.between.stands.taken, n.stands.between.stands.taken, n.stands.between.stands.limited, limits.bytes, event_some h.marks ev.width ev.kind n.event.bytes n.event.are, length-append h.t n.event.bytes)
+      omega (arith, h.agrees.between.agrees.taken, n.agrees.between.agrees.taken, n.agrees.between.agrees.limited, limits.bytes, event_some h.marks ev.width ev.kind n.event.bytes n.event.are, length-append h.t n.event.bytes)
 
   -- the whole item is read
   pub runs_out : (count : ℕ) → IsCleanEnd (strict_call v new now to h.t h.marks) → KeepsLimits v.machine new.machine → count ≡ new.machine.taken → IfSome from (λ input. IsRead b (strict o) input count) × Loses count from to
   runs_out count n limits c =
-      let w = h.stands.inner in
+      let w = h.agrees.inner in
       let bb = limits_of v in
-      let end = over v.inner.items bb v.inner.events h.t w.stands (subst IsComplete (sym w.machine_is) n.end.complete) in
-      let all : count ≡ length h.t = c ∙ n.stands.between.stands.taken in
+      let end = over v.inner.items bb v.inner.events h.t w.agrees (subst IsComplete (sym w.machine_is) n.end.complete) in
+      let all : count ≡ length h.t = c ∙ n.agrees.between.agrees.taken in
       let lost : Consumes from to h.t = subst (Consumes from to) (append-nil h.t) (Consumes-trans from now to h.t [] h.consumed n.end.consumed) in
       let reads : ReadsItem (strict v.order) bb [] [] [] from to v.inner.events (value_of end.item) = record {
         item = end.item;
@@ -114,5 +114,5 @@ module _ (o : KeyOrder) (b : Bounds) (v new : StrictEventsView) (from now to : O
   -- it is refused
   pub runs_stop : (f : Refusal) → IsStrictRefusal f (strict_call v new now to h.t h.marks) → IsReaderReason (limits_of v) (strict v.order) f.reason → IsPrefixUnread (strict o) b from to f
   runs_stop f n reason =
-      let behind = stopped_from (strict v.order) (limits_of v) f [] h.t from now to h.consumed (record { bytes = n.bytes; consumed = n.consumed; read = n.read; reason = reason; unread = n.verdict }) in
-      subst (λ (x : Bounds). IsPrefixUnread (strict o) x from to f) h.limits (subst (λ (p : KeyOrder). IsPrefixUnread (strict p) (limits_of v) from to f) h.order (stopped_prefix (strict v.order) (limits_of v) f from to behind))
+      let following = stopped_from (strict v.order) (limits_of v) f [] h.t from now to h.consumed (record { bytes = n.bytes; consumed = n.consumed; read = n.read; reason = reason; unread = n.verdict }) in
+      subst (λ (x : Bounds). IsPrefixUnread (strict o) x from to f) h.limits (subst (λ (p : KeyOrder). IsPrefixUnread (strict p) (limits_of v) from to f) h.order (stopped_prefix (strict v.order) (limits_of v) f from to following))

@@ -6,16 +6,16 @@ use Rattle.cbor_head.specs.declared.{reason.Reason.Reason, reason.Reason.TheVari
 use Rattle.cbor_head.specs.declared.event.EventKind.TheVariants.{Piece}
 use Rattle.theory_values.proofs.Agree.{same_complaints}
 use Rattle.theory_automaton.specs.{Trace.Mark, Bytes.IsBytesOf, Bytes.last_type, Marks.marks_of}
-use Rattle.cbor_machine.specs.NextEvent.{ItemEventsView, StandsBetween, Call, call, machine_call, IsCut, IsTooLong, HasFormError, IsNextEvent, IsKept as IsPieceKept}
+use Rattle.cbor_machine.specs.NextEvent.{ItemEventsView, AgreesBetween, Call, call, machine_call, IsCut, IsTooLong, HasFormError, IsNextEvent, IsKept as IsPieceKept}
 use Rattle.cbor_machine.specs.{MachineView.MachineView, Machine.KeepsLimits}
 use Rattle.theory_verdicts.{specs.Refusals.IsReaderReason, specs.Judged.IsJudged, specs.Reading.string_major, proofs.Tops.starts-at}
 use Rattle.theory_verdicts.{proofs.KindFrames.keeps_start, proofs.Decisions.none_beside, specs.Kinds.KeepsToKinds, proofs.Judged.judged_start}
 use Rattle.theory_verdicts.proofs.{CutHeads.string_cut, OpenSteps.none_open, Steps.same-marks}
-use Rattle.cbor_strict.specs.inner.OpenItems.{frames_in, bytes_before, Stands}
-use Rattle.cbor_strict.specs.StrictReader.{StrictEventsView, StandsStrictly, IsNextStrict, IsStrictRefusal, IsAgainstEvent, IsMapHead, StopsAtOnce, strict_call}
-use Rattle.cbor_strict.specs.inner.StrictEvents.{StandsSomewhere, IsStep, AnswersStep, IsLittle, AreWithinBounds, bounds_of, piece_unless}
+use Rattle.cbor_strict.specs.inner.OpenItems.{frames_in, bytes_before, Agrees}
+use Rattle.cbor_strict.specs.StrictReader.{StrictEventsView, AgreesStrictly, IsNextStrict, IsStrictRefusal, IsAgainstEvent, IsMapHead, StopsAtOnce, strict_call}
+use Rattle.cbor_strict.specs.inner.StrictEvents.{AgreesWithSome, IsStep, ReturnsStep, IsLittle, AreWithinBounds, bounds_of, piece_unless}
 use Rattle.cbor_strict.specs.{declared.last_keys.LastKeys.LastKeys, declared.open_items.OpenItems.OpenItems, inner.LastKeys.view_value, inner.LastKeys.IsKept}
-use Rattle.cbor_strict.proofs.{KeptKeys.has_span, KeptReading.stands_counted, KeptReading.stands_little, OpenBegins.lift}
+use Rattle.cbor_strict.proofs.{KeptKeys.has_span, KeptReading.agrees_counted, KeptReading.agrees_little, OpenBegins.lift}
 
 -- ---- nothing has a complaint
 
@@ -29,22 +29,22 @@ none_within o d t j s i c h l =
 all_levels : (o : KeyOrder) (d : ℕ) (t : List ℕ) → IsJudged (strict o) 0 (d - 0) t None → IsJudged (strict o) 0 d t None
 all_levels o d t j = let e : d - 0 ≡ d = omega arith in subst (λ (n : ℕ). IsJudged (strict o) 0 n t None) e j
 
-pub stands_clean : (v : OpenItems) (b : Bounds) (e : ItemEventsView) (t : List ℕ) → Stands v b e t → (s : Spelling) → StartsWith b.depth s t → HasNoneOf (Complains (strict v.order) 0 s) (length t)
-stands_clean v b e t (inl h) =
+pub agrees_clean : (v : OpenItems) (b : Bounds) (e : ItemEventsView) (t : List ℕ) → Agrees v b e t → (s : Spelling) → StartsWith b.depth s t → HasNoneOf (Complains (strict v.order) 0 s) (length t)
+agrees_clean v b e t (inl h) =
     none_within v.order b.depth t (subst (λ (x : List ℕ). IsJudged (strict v.order) 0 b.depth x None) (append-nil (bytes_before h.fs) ∙ sym h.taken) (all_levels v.order b.depth (bytes_before h.fs ++ [])
     (lift v.order b h.fs h.around.are h.around.distinct [] None (judged_start (strict v.order) (length (bytes_before h.fs)) (b.depth - length (frames_in h.fs))))))
-stands_clean v b e t (inr (inl h)) =
+agrees_clean v b e t (inr (inl h)) =
     none_within v.order b.depth t (subst (λ (x : List ℕ). IsJudged (strict v.order) 0 b.depth x None) (sym h.taken) (all_levels v.order b.depth (bytes_before h.fs ++ (head (string_major v.is_text) h.w h.n ++ h.q))
     (lift v.order b h.fs h.around.are h.around.distinct (head (string_major v.is_text) h.w h.n ++ h.q) None
     (string_cut h.w h.n h.q h.holds h.are_bytes (omega (arith, h.count, h.some)) (strict v.order) (length (bytes_before h.fs)) (b.depth - length (frames_in h.fs)) v.is_text h.clean))))
-stands_clean v b e t (inr (inr h)) = λ s i c k l.
+agrees_clean v b e t (inr (inr h)) = λ s i c k l.
     let whole : IsItem b.depth h.item (t ++ []) = record { spelled = h.spelled; within = h.within; bytes_are = sym h.taken ∙ sym (append-nil t) } in
     absurd (h.clean c (same_complaints b.depth s h.item t i.0 [] i.1 whole (strict v.order) c l k))
 
 -- ---- before the first byte
 
-pub stands_first : (limits : Bounds) (e : ItemEventsView) (v : OpenItems) → AreBounds limits → e.refusal ≡ None → (e.machine.depth ≡ limits.depth) × (e.machine.bytes ≡ limits.bytes) → StandsBetween e.machine [] [] → v.left ≡ 0 → IsKept (view_value v.keys) [] [] → Stands v limits e []
-stands_first limits e v within live same h none kept =
+pub agrees_first : (limits : Bounds) (e : ItemEventsView) (v : OpenItems) → AreBounds limits → e.refusal ≡ None → (e.machine.depth ≡ limits.depth) × (e.machine.bytes ≡ limits.bytes) → AgreesBetween e.machine [] [] → v.left ≡ 0 → IsKept (view_value v.keys) [] [] → Agrees v limits e []
+agrees_first limits e v within live same h none kept =
     inl (record { fs = []; around = record { are = none_open (strict v.order) limits.depth; distinct = tt }; none = none; kept = kept; taken = refl; at = starts-at limits e within live same h })
 
 -- ---- no event is left out before it
@@ -62,8 +62,8 @@ by_event o spans f ev c h small read against needed = inr (inr (inr (inl (record
   consumed = h.consumed;
   are = h.are;
   piece = small;
-  read = read ∙ h.stands.stands.taken;
-  stands = h.stands;
+  read = read ∙ h.agrees.agrees.taken;
+  agrees = h.agrees;
   against = against;
   needed = needed;
 }))))
@@ -76,18 +76,18 @@ small_piece ev c piece h is l n e =
     omega (arith, size, same, l)
 
 -- a key that is not complete is one of an open map
-pub stands_span : (v : OpenItems) (b : Bounds) (e : ItemEventsView) (t : List ℕ) → Stands v b e t → 0 < (view_value v.keys).open_keys → 0 < length (view_value v.keys).spans
-stands_span v b e t (inl h) some = has_span (view_value v.keys) h.fs [] h.kept some
-stands_span v b e t (inr (inl h)) some = has_span (view_value v.keys) h.fs _ h.kept some
-stands_span v b e t (inr (inr h)) some = has_span (view_value v.keys) [] _ h.kept some
+pub agrees_span : (v : OpenItems) (b : Bounds) (e : ItemEventsView) (t : List ℕ) → Agrees v b e t → 0 < (view_value v.keys).open_keys → 0 < length (view_value v.keys).spans
+agrees_span v b e t (inl h) some = has_span (view_value v.keys) h.fs [] h.kept some
+agrees_span v b e t (inr (inl h)) some = has_span (view_value v.keys) h.fs _ h.kept some
+agrees_span v b e t (inr (inr h)) some = has_span (view_value v.keys) [] _ h.kept some
 
 -- whatever piece is held
 stops_too : (o : KeyOrder) (spans : ℕ) (f : Refusal) (m n : MachineView) (held left : Option (List ℕ)) (a b x y t : List ℕ) (ms : List Mark) → StopsAtOnce o spans f (machine_call m n held left a b t ms) → StopsAtOnce o spans f (machine_call m n held left x y t ms)
 stops_too o spans f m n held left a b x y t ms h = elim h [
-  | inl k ↦ inl (record { bytes = k.bytes; consumed = k.consumed; reason = k.reason; is = k.is; verdict = k.verdict; short = k.short; stands = k.stands; unfinished = k.unfinished })
-  | inr (inl k) ↦ inr (inl (record { bytes = k.bytes; consumed = k.consumed; is = k.is; full = k.full; verdict = k.verdict; stands = k.stands; unfinished = k.unfinished }))
-  | inr (inr (inl k)) ↦ inr (inr (inl (record { bytes = k.bytes; byte = k.byte; consumed = k.consumed; is = k.is; cannot_follow = k.cannot_follow; verdict = k.verdict; stands = k.stands; unfinished = k.unfinished })))
-  | inr (inr (inr (inl k))) ↦ inr (inr (inr (inl (record { width = k.width; kind = k.kind; bytes = k.bytes; consumed = k.consumed; are = k.are; piece = k.piece; read = k.read; stands = k.stands; against = k.against; needed = k.needed }))))
+  | inl k ↦ inl (record { bytes = k.bytes; consumed = k.consumed; reason = k.reason; is = k.is; verdict = k.verdict; short = k.short; agrees = k.agrees; unfinished = k.unfinished })
+  | inr (inl k) ↦ inr (inl (record { bytes = k.bytes; consumed = k.consumed; is = k.is; full = k.full; verdict = k.verdict; agrees = k.agrees; unfinished = k.unfinished }))
+  | inr (inr (inl k)) ↦ inr (inr (inl (record { bytes = k.bytes; byte = k.byte; consumed = k.consumed; is = k.is; cannot_follow = k.cannot_follow; verdict = k.verdict; agrees = k.agrees; unfinished = k.unfinished })))
+  | inr (inr (inr (inl k))) ↦ inr (inr (inr (inl (record { width = k.width; kind = k.kind; bytes = k.bytes; consumed = k.consumed; are = k.are; piece = k.piece; read = k.read; agrees = k.agrees; against = k.against; needed = k.needed }))))
   | inr (inr (inr (inr k))) ↦ inr (inr (inr (inr (record { unfinished = k.unfinished; byte = k.byte; small = k.small; consumed = k.consumed; other = k.other; item = k.item; follows = k.follows; is = k.is }))))
 ]
 
@@ -107,16 +107,16 @@ shown e v keys r = record {
   inner = record { events = e; items = v };
 }
 
-stands_strictly : (e : ItemEventsView) (v : OpenItems) (keys : Keys) (t : List ℕ) (ms : List Mark) → StandsBetween e.machine t ms → Stands v (bounds_of e.machine keys) e t → KeepsToKinds (bounds_of e.machine keys) (strict v.order) t → StandsStrictly (shown e v keys None) t ms
-stands_strictly e v keys t ms h s keeps =
+agrees_strictly : (e : ItemEventsView) (v : OpenItems) (keys : Keys) (t : List ℕ) (ms : List Mark) → AgreesBetween e.machine t ms → Agrees v (bounds_of e.machine keys) e t → KeepsToKinds (bounds_of e.machine keys) (strict v.order) t → AgreesStrictly (shown e v keys None) t ms
+agrees_strictly e v keys t ms h s keeps =
     let b = bounds_of e.machine keys in
     record {
       between = h;
-      clean = λ i k. none_beside b (strict v.order) i (length t) (λ asked c o l. keeps asked i c k o l) (stands_clean v b e t s i k);
-      spans = λ i k. (stands_counted v b e t s i k).spans;
-      kept = λ i k. (stands_counted v b e t s i k).kept;
+      clean = λ i k. none_beside b (strict v.order) i (length t) (λ asked c o l. keeps asked i c k o l) (agrees_clean v b e t s i k);
+      spans = λ i k. (agrees_counted v b e t s i k).spans;
+      kept = λ i k. (agrees_counted v b e t s i k).kept;
       live = refl;
-      inner = record { machine_is = refl; order_is = refl; stands = s; keeps = keeps };
+      inner = record { machine_is = refl; order_is = refl; agrees = s; keeps = keeps };
     }
 
 pub same_bounds : (old new : MachineView) (keys : Keys) → KeepsLimits old new → bounds_of old keys ≡ bounds_of new keys
@@ -126,23 +126,23 @@ same_bounds old new keys h = ap (λ (d : ℕ). with_keys (bounds d old.bytes) ke
 pub first_bounds : (limits : Bounds) (keys : Keys) (e : ItemEventsView) → keys ≡ limits.keys → (e.machine.depth ≡ limits.depth) × (e.machine.bytes ≡ limits.bytes) → bounds_of e.machine keys ≡ limits
 first_bounds limits keys e asks same = ap (λ (n : ℕ). with_keys (bounds e.machine.depth n) keys) same.1 ∙ ap (λ (d : ℕ). with_keys (bounds d limits.bytes) keys) same.0 ∙ ap (with_keys (bounds limits.depth limits.bytes)) asks
 
-pub starts_strictly : (limits : Bounds) (keys : Keys) (e : ItemEventsView) (v : OpenItems) → keys ≡ limits.keys → AreBounds limits → e.refusal ≡ None → (e.machine.depth ≡ limits.depth) × (e.machine.bytes ≡ limits.bytes) → StandsBetween e.machine [] [] → v.left ≡ 0 → IsKept (view_value v.keys) [] [] → StandsStrictly (shown e v keys None) [] []
+pub starts_strictly : (limits : Bounds) (keys : Keys) (e : ItemEventsView) (v : OpenItems) → keys ≡ limits.keys → AreBounds limits → e.refusal ≡ None → (e.machine.depth ≡ limits.depth) × (e.machine.bytes ≡ limits.bytes) → AgreesBetween e.machine [] [] → v.left ≡ 0 → IsKept (view_value v.keys) [] [] → AgreesStrictly (shown e v keys None) [] []
 starts_strictly limits keys e v asks within live same h none kept =
-    stands_strictly e v keys [] [] h (subst (λ (b : Bounds). Stands v b e []) (sym (first_bounds limits keys e asks same)) (stands_first limits e v within live same h none kept)) (keeps_start (bounds_of e.machine keys) (strict v.order))
+    agrees_strictly e v keys [] [] h (subst (λ (b : Bounds). Agrees v b e []) (sym (first_bounds limits keys e asks same)) (agrees_first limits e v within live same h none kept)) (keeps_start (bounds_of e.machine keys) (strict v.order))
 
-pub somewhere_little : (e : ItemEventsView) (v : OpenItems) (keys : Keys) → StandsSomewhere keys v e → IsLittle v e
-somewhere_little e v keys h = stands_little v h.b e h.t h.stands
+pub somewhere_little : (e : ItemEventsView) (v : OpenItems) (keys : Keys) → AgreesWithSome keys v e → IsLittle v e
+somewhere_little e v keys h = agrees_little v h.b e h.t h.agrees
 
-pub starts_within : (limits : Bounds) (keys : Keys) (e : ItemEventsView) (v : OpenItems) → keys ≡ limits.keys → AreBounds limits → e.refusal ≡ None → (e.machine.depth ≡ limits.depth) × (e.machine.bytes ≡ limits.bytes) → StandsBetween e.machine [] [] → v.left ≡ 0 → IsKept (view_value v.keys) [] [] → AreWithinBounds e v keys None
+pub starts_within : (limits : Bounds) (keys : Keys) (e : ItemEventsView) (v : OpenItems) → keys ≡ limits.keys → AreBounds limits → e.refusal ≡ None → (e.machine.depth ≡ limits.depth) × (e.machine.bytes ≡ limits.bytes) → AgreesBetween e.machine [] [] → v.left ≡ 0 → IsKept (view_value v.keys) [] [] → AreWithinBounds e v keys None
 starts_within limits keys e v asks within live same h none kept =
-    let there : StandsSomewhere keys v e = record { b = limits; asks = sym asks; t = []; stands = stands_first limits e v within live same h none kept; keeps = keeps_start limits (strict v.order) } in
+    let there : AgreesWithSome keys v e = record { b = limits; asks = sym asks; t = []; agrees = agrees_first limits e v within live same h none kept; keeps = keeps_start limits (strict v.order) } in
     record {
-      stands = λ n. there;
+      agrees = λ n. there;
       stopped = tt;
       memory = tt;
       limits = (omega (arith, within.0, same.0), omega (arith, within.1, same.1));
-      within = h.stands.bounded;
-      limited = h.stands.limited;
+      within = h.agrees.bounded;
+      limited = h.agrees.limited;
       little = somewhere_little e v keys there;
     }
 
@@ -154,13 +154,13 @@ reason_as r limits others x e (inr (inl (inr h))) = inr (inl (inr (h.0, h.1, sym
 reason_as r limits others x e (inr (inr h)) = inr (inr h)
 
 module _ (e after : ItemEventsView) (v new : OpenItems) (keys : Keys) (from to : Option (List ℕ)) (limits : KeepsLimits e.machine after.machine) where
-  reported_strictly : (o : Option Event) (t : List ℕ) (ms : List Mark) → (StandsStrictly (shown e v keys None) t ms) → IsStep o new (bounds_of e.machine keys) e after t from to → IsNextStrict (Ok o) (strict_call (shown e v keys None) (shown after new keys None) from to t ms)
+  reported_strictly : (o : Option Event) (t : List ℕ) (ms : List Mark) → (AgreesStrictly (shown e v keys None) t ms) → IsStep o new (bounds_of e.machine keys) e after t from to → IsNextStrict (Ok o) (strict_call (shown e v keys None) (shown after new keys None) from to t ms)
   reported_strictly (Some event) t ms h g =
       let same = same_bounds e.machine after.machine keys limits in
       subst (λ (ns : List Mark). IsNextStrict (Ok (Some event)) (strict_call (shown e v keys None) (shown after new keys None) from to t ns)) (same-marks e.machine t g.marks ms g.between h.between)
       (record {
         event = g.next;
-        stands = stands_strictly after new keys (t ++ g.next.bytes) (g.marks ++ marks_of event.width event.kind) g.next.stands (subst (λ (b : Bounds). Stands new b after (t ++ g.next.bytes)) same g.stands)
+        agrees = agrees_strictly after new keys (t ++ g.next.bytes) (g.marks ++ marks_of event.width event.kind) g.next.agrees (subst (λ (b : Bounds). Agrees new b after (t ++ g.next.bytes)) same g.agrees)
             (subst (λ (b : Bounds). KeepsToKinds b (strict new.order) (t ++ g.next.bytes)) same g.keeps);
       })
   reported_strictly None t ms h g =
@@ -168,17 +168,17 @@ module _ (e after : ItemEventsView) (v new : OpenItems) (keys : Keys) (from to :
       subst (λ (ns : List Mark). IsNextStrict (Ok None) (strict_call (shown e v keys None) (shown after new keys None) from to t ns)) (same-marks e.machine t g.marks ms g.between h.between)
       (record {
         end = g.end;
-        stands = stands_strictly after new keys t g.marks g.end.stands (subst (λ (b : Bounds). Stands new b after t) same (inr (inr g.over))) (subst (λ (b : Bounds). KeepsToKinds b (strict new.order) t) same g.keeps);
+        agrees = agrees_strictly after new keys t g.marks g.end.agrees (subst (λ (b : Bounds). Agrees new b after t) same (inr (inr g.over))) (subst (λ (b : Bounds). KeepsToKinds b (strict new.order) t) same g.keeps);
       })
 
-  pub next_reported : (o : Option Event) (r : Option Refusal) → AnswersStep keys v new e after from to (Ok o) → (t : List ℕ) (ms : List Mark) → StandsStrictly (shown e v keys r) t ms → IsNextStrict (Ok o) (strict_call (shown e v keys r) (shown after new keys r) from to t ms)
-  next_reported o None answers t ms h = reported_strictly o t ms h (answers (bounds_of e.machine keys) t refl h.inner.stands h.inner.keeps)
-  next_reported o (Some f) answers t ms h = absurd (cc h.live)
+  pub next_reported : (o : Option Event) (r : Option Refusal) → ReturnsStep keys v new e after from to (Ok o) → (t : List ℕ) (ms : List Mark) → AgreesStrictly (shown e v keys r) t ms → IsNextStrict (Ok o) (strict_call (shown e v keys r) (shown after new keys r) from to t ms)
+  next_reported o None returned t ms h = reported_strictly o t ms h (returned (bounds_of e.machine keys) t refl h.inner.agrees h.inner.keeps)
+  next_reported o (Some f) returned t ms h = absurd (cc h.live)
 
-  pub next_refused : (f : Refusal) (r : Option Refusal) (last : OpenItems) → AnswersStep keys v new e after from to (Err f) → ((t : List ℕ) (ms : List Mark) → StandsBetween e.machine t ms → StopsAtOnce v.order (length (view_value v.keys).spans) f (call e after from to t ms)) → (t : List ℕ) (ms : List Mark) → StandsStrictly (shown e v keys r) t ms
+  pub next_refused : (f : Refusal) (r : Option Refusal) (last : OpenItems) → ReturnsStep keys v new e after from to (Err f) → ((t : List ℕ) (ms : List Mark) → AgreesBetween e.machine t ms → StopsAtOnce v.order (length (view_value v.keys).spans) f (call e after from to t ms)) → (t : List ℕ) (ms : List Mark) → AgreesStrictly (shown e v keys r) t ms
       → IsStrictRefusal f (strict_call (shown e v keys r) (shown after last keys (Some f)) from to t ms)
-  next_refused f None last answers at_once t ms h =
-      let s = answers (bounds_of e.machine keys) t refl h.inner.stands h.inner.keeps in
+  next_refused f None last returned at_once t ms h =
+      let s = returned (bounds_of e.machine keys) t refl h.inner.agrees h.inner.keeps in
       record {
         unfinished = s.0;
         bytes = s.1.bytes;
@@ -187,20 +187,20 @@ module _ (e after : ItemEventsView) (v new : OpenItems) (keys : Keys) (from to :
         at_once = stops_too v.order (length (view_value v.keys).spans) f e.machine after.machine from to e.piece after.piece e.piece [] t ms (at_once t ms h.between);
         verdict = s.1.unread;
       }
-  next_refused f (Some x) last answers at_once t ms h = absurd (cc h.live)
+  next_refused f (Some x) last returned at_once t ms h = absurd (cc h.live)
 
-  pub stands_next : (o : Option Event) → StandsSomewhere keys v e → AnswersStep keys v new e after from to (Ok o) → StandsSomewhere keys new after
-  stands_next (Some event) h answers = let g = answers h.b h.t h.asks h.stands h.keeps in record { b = h.b; asks = h.asks; t = h.t ++ g.next.bytes; stands = g.stands; keeps = g.keeps }
-  stands_next None h answers = let g = answers h.b h.t h.asks h.stands h.keeps in record { b = h.b; asks = h.asks; t = h.t; stands = inr (inr g.over); keeps = g.keeps }
+  pub agrees_next : (o : Option Event) → AgreesWithSome keys v e → ReturnsStep keys v new e after from to (Ok o) → AgreesWithSome keys new after
+  agrees_next (Some event) h returned = let g = returned h.b h.t h.asks h.agrees h.keeps in record { b = h.b; asks = h.asks; t = h.t ++ g.next.bytes; agrees = g.agrees; keeps = g.keeps }
+  agrees_next None h returned = let g = returned h.b h.t h.asks h.agrees h.keeps in record { b = h.b; asks = h.asks; t = h.t; agrees = inr (inr g.over); keeps = g.keeps }
 
-  pub refused_reason : (b : Bounds) (f : Refusal) → b.keys ≡ keys → StandsSomewhere keys v e → AnswersStep keys v new e after from to (Err f) → IsReaderReason b (strict v.order) f.reason
-  refused_reason b f same h answers = reason_as (strict v.order) h.b b f.reason (h.asks ∙ sym same) (answers h.b h.t h.asks h.stands h.keeps).1.reason
+  pub refused_reason : (b : Bounds) (f : Refusal) → b.keys ≡ keys → AgreesWithSome keys v e → ReturnsStep keys v new e after from to (Err f) → IsReaderReason b (strict v.order) f.reason
+  refused_reason b f same h returned = reason_as (strict v.order) h.b b f.reason (h.asks ∙ sym same) (returned h.b h.t h.asks h.agrees h.keeps).1.reason
 
-  pub within_next : (o : Option Event) (r : Option Refusal) → r ≡ None → AreWithinBounds e v keys r → AnswersStep keys v new e after from to (Ok o) → AreWithinBounds after new keys r
-  within_next o r none h answers =
-      let there = stands_next o (h.stands none) answers in
+  pub within_next : (o : Option Event) (r : Option Refusal) → r ≡ None → AreWithinBounds e v keys r → ReturnsStep keys v new e after from to (Ok o) → AreWithinBounds after new keys r
+  within_next o r none h returned =
+      let there = agrees_next o (h.agrees none) returned in
       record {
-        stands = λ n. there;
+        agrees = λ n. there;
         stopped = rw none tt;
         memory = rw none tt;
         limits = (omega (arith, h.limits.0, limits.depth), omega (arith, h.limits.1, limits.bytes));
@@ -210,12 +210,12 @@ module _ (e after : ItemEventsView) (v new : OpenItems) (keys : Keys) (from to :
       }
 
   -- nothing is stored after a refusal
-  pub within_stopped : (f : Refusal) (r : Option Refusal) (last : LastKeys) → r ≡ None → AreWithinBounds e v keys r → AnswersStep keys v new e after from to (Err f) → new.order ≡ v.order → after.machine.taken ≡ f.read → IsKept (view_value last) [] [] → (f.reason ≡ Memory → IsTrue new.memory) → AreWithinBounds after (record new { keys = last }) keys (Some f)
-  within_stopped f r last none h answers same read kept memory = record {
-    stands = λ n. absurd (cc n);
+  pub within_stopped : (f : Refusal) (r : Option Refusal) (last : LastKeys) → r ≡ None → AreWithinBounds e v keys r → ReturnsStep keys v new e after from to (Err f) → new.order ≡ v.order → after.machine.taken ≡ f.read → IsKept (view_value last) [] [] → (f.reason ≡ Memory → IsTrue new.memory) → AreWithinBounds after (record new { keys = last }) keys (Some f)
+  within_stopped f r last none h returned same read kept memory = record {
+    agrees = λ n. absurd (cc n);
     stopped = (
       sym read,
-      subst (λ (o : KeyOrder). IsReaderReason (bounds_of after.machine keys) (strict o) f.reason) (sym same) (refused_reason (bounds_of after.machine keys) f refl (h.stands none) answers),
+      subst (λ (o : KeyOrder). IsReaderReason (bounds_of after.machine keys) (strict o) f.reason) (sym same) (refused_reason (bounds_of after.machine keys) f refl (h.agrees none) returned),
       ap length kept.spans,
       ap length kept.bytes,
     );

@@ -9,9 +9,9 @@ use Rattle.theory_verdicts.specs.Frame.{Frame, a_member, a_key, a_content, tagge
 use Rattle.theory_verdicts.specs.{Readers.IsRead, Place.close, Reading.IsAt, Kinds.IsKeyExpected, Kinds.KeepsToKinds}
 use Rattle.theory_verdicts.proofs.{Accepted.item_within_limit, KindFrames.expected_last, KindFrames.keeps_on}
 use Rattle.cbor_strict.specs.inner.LastKeys.{view_value, from_outside, keys_around, still_open}
-use Rattle.cbor_strict.specs.inner.OpenItems.{frames_in, bytes_before, IsItemExpected, HasEnded, Stands}
+use Rattle.cbor_strict.specs.inner.OpenItems.{frames_in, bytes_before, IsItemExpected, HasEnded, Agrees}
 use Rattle.cbor_strict.specs.declared.last_keys.Expected.TheVariants.{Member, Key, Value}
-use Rattle.cbor_strict.proofs.OpenStates.{Closing, has_closed, by_key, behind_member}
+use Rattle.cbor_strict.proofs.OpenStates.{Closing, has_closed, by_key, closed_member}
 use Rattle.cbor_strict.specs.declared.{last_keys.Expected.Expected, last_keys.LastKeys.LastKeys, open_items.OpenItems.OpenItems}
 use Rattle.cbor_strict.proofs.{KeptKeys.kept_out, KeptKeys.in_no_key, OpenBegins.expects, OpenEnds.frames_length}
 
@@ -34,12 +34,12 @@ no_key_ends old keys count taken expected b e t k h c outside d =
     (λ w a v others gs s n. omega (arith, n.kept.open_keys, m.kept.open_keys, still_around h.fs, h.kept.open_keys, outside))
 
 -- nothing more, or a member
-pub behind_whole : (old new : OpenItems) (keys : LastKeys) (count : ℕ) (expected : Expected) (b : Bounds) (e : ItemEventsView) (t : List ℕ) → Closing old keys count 0 expected → (h : HasEnded old b e t)
-    → count ≡ e.machine.open_count → (view_value old.keys).open_keys ≡ 0 → (expected ≡ Value → ⊥) → new.order ≡ old.order → new.keys ≡ keys → new.left ≡ old.left → Stands new b e t
-behind_whole old new keys count expected b e t k h c outside other same_order same_keys same_left = go expected refl
+pub after_whole : (old new : OpenItems) (keys : LastKeys) (count : ℕ) (expected : Expected) (b : Bounds) (e : ItemEventsView) (t : List ℕ) → Closing old keys count 0 expected → (h : HasEnded old b e t)
+    → count ≡ e.machine.open_count → (view_value old.keys).open_keys ≡ 0 → (expected ≡ Value → ⊥) → new.order ≡ old.order → new.keys ≡ keys → new.left ≡ old.left → Agrees new b e t
+after_whole old new keys count expected b e t k h c outside other same_order same_keys same_left = go expected refl
   where
-    go : (x : Expected) → expected ≡ x → Stands new b e t
-    go Member is = behind_member old new keys count 0 expected b e t k h c is same_order same_keys same_left
+    go : (x : Expected) → expected ≡ x → Agrees new b e t
+    go Member is = closed_member old new keys count 0 expected b e t k h c is same_order same_keys same_left
     go Value is = absurd (other is)
     go Key is = absurd (no_key_ends old keys count 0 expected b e t k h c outside is)
 

@@ -6,7 +6,7 @@ use Rattle.cbor_head.specs.{Laws.StartsWith, Laws.IsWithout, declared.keys.Keys.
 use Rattle.cbor_head.specs.declared.{reason.Reason.TheVariants.Memory, reason.Refusal.Refusal, width.Width.Width, event.Event.Event, event.EventKind.EventKind}
 use Rattle.cbor_head.specs.declared.event.EventKind.TheVariants.{Piece, Map}
 use Rattle.theory_automaton.specs.{Bytes.IsEventBytes, Trace.Mark, Marks.marks_of}
-use Rattle.cbor_machine.specs.NextEvent.{StandsBetween, Call, machine_call, IsNextEvent, IsEnd, IsCut, IsTooLong, HasFormError}
+use Rattle.cbor_machine.specs.NextEvent.{AgreesBetween, Call, machine_call, IsNextEvent, IsEnd, IsCut, IsTooLong, HasFormError}
 use Rattle.cbor_machine.specs.{MachineView.MachineView, Machine.IsComplete, NextKey.IsOtherKey}
 use Rattle.theory_verdicts.specs.{Readers.IsUnread, Refusals.IsComplaintReason}
 use Rattle.cbor_strict.specs.{KeptKeys.open_maps, KeptKeys.key_bytes, inner.StrictEvents.Inner, inner.StrictEvents.IsInner}
@@ -38,8 +38,8 @@ pub record StrictReaderView (R : Type 0) : Type 0 where
   pub events : StrictEventsView
 
 -- All events of t were reported, with these marks, and nothing in t has a complaint.
-pub record StandsStrictly (v : StrictEventsView) (t : List ℕ) (ms : List Mark) : Type 0 where
-  pub between : StandsBetween v.machine t ms
+pub record AgreesStrictly (v : StrictEventsView) (t : List ℕ) (ms : List Mark) : Type 0 where
+  pub between : AgreesBetween v.machine t ms
   -- no complaint ends within t, of any item that starts with t
   pub clean : (s : Spelling) → StartsWith v.machine.depth s t → IsWithout (limits_of v) (strict v.order) s (length t)
   -- the counts are those of each such item: a span for each open map, and the bytes of keys that may still be compared
@@ -69,12 +69,12 @@ form_call c = machine_call c.old.machine c.new.machine c.held c.left c.old.piece
 -- the next event, with which no complaint ends
 pub record IsNextClean (e : Event) (c : StrictCall) : Type 0 where
   pub event : IsNextEvent e (form_call c)
-  pub stands : StandsStrictly c.new (c.taken ++ event.bytes) (c.reported ++ marks_of e.width e.kind)
+  pub agrees : AgreesStrictly c.new (c.taken ++ event.bytes) (c.reported ++ marks_of e.width e.kind)
 
 -- all events were reported, and nothing was read
 pub record IsCleanEnd (c : StrictCall) : Type 0 where
   pub end : IsEnd (form_call c)
-  pub stands : StandsStrictly c.new c.taken c.reported
+  pub agrees : AgreesStrictly c.new c.taken c.reported
 
 -- what can be wrong with an event that was read: a complaint that ends with it, or memory was refused for it
 abbrev pub IsAgainstEvent : KeyOrder → Reason → Type 0
@@ -95,7 +95,7 @@ pub record IsWithheld (o : KeyOrder) (spans : ℕ) (f : Refusal) (c : Call) : Ty
   pub are : IsEventBytes c.reported width kind bytes
   pub piece : (n : ℕ) → kind ≡ Piece n → n ≤ 512
   pub read : f.read ≡ length (c.taken ++ bytes)
-  pub stands : StandsBetween c.new (c.taken ++ bytes) (c.reported ++ marks_of width kind)
+  pub agrees : AgreesBetween c.new (c.taken ++ bytes) (c.reported ++ marks_of width kind)
   pub against : IsAgainstEvent o f.reason
   -- memory is requested where a map opens or is open, and nowhere else
   pub needed : f.reason ≡ Memory → (0 < spans) ⊎ IsMapHead kind

@@ -8,7 +8,7 @@ ghost use Rattle.cbor_head.specs.declared.width.Width.{Width};
 ghost use Rattle.theory_verdicts.specs.Frame.{Frame, a_key, a_content, before, plug};
 ghost use Rattle.theory_verdicts.specs.Frame.{with_entries};
 ghost use Rattle.cbor_strict.specs.inner.LastKeys.{IsKept, IsFull, AreDefinite, HasKeyEnded};
-ghost use Rattle.cbor_strict.specs.inner.LastKeys.{AnswersKeyEnd};
+ghost use Rattle.cbor_strict.specs.inner.LastKeys.{ReturnsKeyEnd};
 ghost use Rattle.cbor_strict.specs.inner.LastKeys.{view_value, with_key, with_last, expected_of};
 ghost use Rattle.cbor_strict.specs.inner.LastKeys.{still_open, ended_item};
 
@@ -194,7 +194,7 @@ impl LastKeys {
     // length in bytes.
     pub(crate) fn end_key(&mut self, order: KeyOrder) -> Result<(), usize>
         requires { HasKeyEnded (view_value self.old) }
-        ensures { AnswersKeyEnd order (view_value self.old) (view_value self.new) result }
+        ensures { ReturnsKeyEnd order (view_value self.old) (view_value self.new) result }
     {
         let Some(last) = self.spans.last() else {
             unreachable!()
@@ -294,7 +294,7 @@ fn cut_out(bytes: &mut Vec<u8>, from: usize, to: usize)
     requires within { to ≤ length bytes.old.items }
     ensures { bytes.new.items ≡ take from bytes.old.items ++ drop to bytes.old.items }
 {
-    let behind = bytes.len() - to;
+    let following = bytes.len() - to;
     bytes.copy_within(to.., from);
-    bytes.truncate(from + behind);
+    bytes.truncate(from + following);
 }

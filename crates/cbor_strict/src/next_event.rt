@@ -5,10 +5,10 @@ ghost use Rattle.cbor_head.specs.declared.reason.Reason.TheVariants as reasons;
 ghost use Rattle.theory_automaton.specs.Trace.{Mark};
 ghost use Rattle.theory_automaton.specs.Marks.{IsProper};
 ghost use Rattle.cbor_machine.specs.Machine.{KeepsLimits, IsIdle};
-ghost use Rattle.cbor_machine.specs.NextEvent.{IfReported, StandsBetween, call};
+ghost use Rattle.cbor_machine.specs.NextEvent.{IfReported, AgreesBetween, call};
 ghost use Rattle.cbor_strict.specs.StrictReader.{StopsAtOnce};
 ghost use Rattle.cbor_strict.specs.inner.LastKeys.{view_value};
-ghost use Rattle.cbor_strict.specs.inner.StrictEvents.{StandsSomewhere, AnswersStep};
+ghost use Rattle.cbor_strict.specs.inner.StrictEvents.{AgreesWithSome, ReturnsStep};
 
 use crate::open_items::OpenItems;
 use cbor_events::ItemEvents;
@@ -22,12 +22,12 @@ pub(crate) fn next_event<R: Read>(
     keys: Keys,
     reader: &mut R,
 ) -> Result<Option<Event>, Refusal>
-    requires { StandsSomewhere keys items.old events.old }
+    requires { AgreesWithSome keys items.old events.old }
     ensures order { items.new.order ≡ items.old.order }
-    ensures answers { AnswersStep keys items.old items.new events.old events.new
+    ensures returned { ReturnsStep keys items.old items.new events.old events.new
         (R.remaining reader.old) (R.remaining reader.new) result }
     ensures at_once { IfErr result (λ f. (t : List ℕ) (ms : List Mark)
-        → StandsBetween events.old.machine t ms
+        → AgreesBetween events.old.machine t ms
         → StopsAtOnce items.old.order (length (view_value items.old.keys).spans) f
         (call events.old events.new (R.remaining reader.old) (R.remaining reader.new) t ms)) }
     ensures limits { KeepsLimits events.old.machine events.new.machine }

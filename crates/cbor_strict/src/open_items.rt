@@ -13,10 +13,10 @@ ghost use Rattle.cbor_strict.specs.StrictReader.{IsAgainstEvent, IsMapHead};
 ghost use Rattle.theory_verdicts.specs.Frame.{Frame};
 ghost use Rattle.theory_verdicts.specs.Kinds.{IsKeyExpected};
 ghost use Rattle.cbor_strict.specs.inner.LastKeys.{IsKept, view_value, from_outside};
-ghost use Rattle.cbor_strict.specs.inner.OpenItems.{IsItemEnded, AnswersEnd, IsHeadCome};
-ghost use Rattle.cbor_strict.specs.inner.OpenItems.{AnswersHead};
-ghost use Rattle.cbor_strict.specs.inner.OpenItems.{IsPartCome, AnswersPart, IsBegunIn};
-ghost use Rattle.cbor_strict.specs.inner.OpenItems.{AnswersBegun, IsEventCome, AnswersEvent};
+ghost use Rattle.cbor_strict.specs.inner.OpenItems.{IsItemEnded, ReturnsEnd, IsHeadCome};
+ghost use Rattle.cbor_strict.specs.inner.OpenItems.{ReturnsHead};
+ghost use Rattle.cbor_strict.specs.inner.OpenItems.{IsPartCome, ReturnsPart, IsBegunIn};
+ghost use Rattle.cbor_strict.specs.inner.OpenItems.{ReturnsBegun, IsEventCome, ReturnsEvent};
 ghost use Rattle.cbor_strict.specs.inner.OpenItems.{IsSameString, IsLeaf, GoesOn};
 
 mod whole_item;
@@ -104,7 +104,7 @@ impl OpenItems {
     ) -> Result<(), Refusal>
         requires { IsEventCome self.old event.now piece.now «open» taken }
         ensures order { self.new.order ≡ self.old.order }
-        ensures answers { AnswersEvent self.old self.new event.now piece.now «open» taken result }
+        ensures returned { ReturnsEvent self.old self.new event.now piece.now «open» taken result }
         ensures against { IfErr result (λ f. IsAgainstEvent self.old.order f.reason) }
         ensures read { IfErr result (λ f. f.read ≡ taken) }
         ensures memory { IfErr result (λ f. f.reason ≡ reasons.Memory → IsTrue self.new.memory) }
@@ -123,7 +123,7 @@ impl OpenItems {
     fn admit_head(&mut self, event: &Event, open: usize, taken: u64) -> Result<(), Refusal>
         requires { IsHeadCome self.old event.now «open» taken }
         ensures order { self.new.order ≡ self.old.order }
-        ensures answers { AnswersHead self.old self.new event.now «open» taken result }
+        ensures returned { ReturnsHead self.old self.new event.now «open» taken result }
         ensures against { IfErr result (λ f. IsAgainstEvent self.old.order f.reason) }
         ensures read { IfErr result (λ f. f.read ≡ taken) }
         ensures memory { IfErr result (λ f. f.reason ≡ reasons.Memory → IsTrue self.new.memory) }
@@ -169,7 +169,7 @@ impl OpenItems {
     fn begin(&mut self, major: Major, argument: u64, open: usize, taken: u64) -> Result<(), Refusal>
         requires { IsBegunIn self.old major argument «open» taken }
         ensures order { self.new.order ≡ self.old.order }
-        ensures answers { AnswersBegun self.old self.new major argument «open» taken result }
+        ensures returned { ReturnsBegun self.old self.new major argument «open» taken result }
         ensures against { IfErr result (λ f. IsAgainstEvent self.old.order f.reason) }
         ensures read { IfErr result (λ f. f.read ≡ taken) }
         ensures memory { IfErr result (λ f. f.reason ≡ reasons.Memory → IsTrue self.new.memory) }
@@ -207,7 +207,7 @@ impl OpenItems {
     fn admit_piece(&mut self, piece: &[u8], open: usize, taken: u64) -> Result<(), Refusal>
         requires { IsPartCome self.old piece.now «open» taken }
         ensures order { self.new.order ≡ self.old.order }
-        ensures answers { AnswersPart self.old self.new piece.now «open» taken result }
+        ensures returned { ReturnsPart self.old self.new piece.now «open» taken result }
         ensures against { IfErr result (λ f. IsAgainstEvent self.old.order f.reason) }
         ensures read { IfErr result (λ f. f.read ≡ taken) }
         ensures memory { IfErr result (λ f. f.reason ≡ reasons.Memory → IsTrue self.new.memory) }
@@ -226,8 +226,8 @@ impl OpenItems {
         match self.text_end() {
             Ok(()) => self.end_item(open, taken),
             Err(valid) => {
-                let behind = self.check.pushed() - valid;
-                Err(Refusal::new(Reason::InvalidText, taken - behind, taken))
+                let following = self.check.pushed() - valid;
+                Err(Refusal::new(Reason::InvalidText, taken - following, taken))
             }
         }
     }
@@ -269,7 +269,7 @@ impl OpenItems {
     fn end_item(&mut self, open: usize, taken: u64) -> Result<(), Refusal>
         requires { IsItemEnded self.old «open» taken }
         ensures order { self.new.order ≡ self.old.order }
-        ensures answers { AnswersEnd self.old self.new «open» taken result }
+        ensures returned { ReturnsEnd self.old self.new «open» taken result }
         ensures against { IfErr result (λ f. IsAgainstEvent self.old.order f.reason) }
         ensures read { IfErr result (λ f. f.read ≡ taken) }
         ensures never { IfErr result (λ f. f.reason ≢ reasons.Memory) }

@@ -9,7 +9,7 @@ ghost use Rattle.theory_automaton.specs.Marks.{IsProper};
 ghost use Rattle.cbor_machine.specs.Machine.{KeepsLimits, IsIdle};
 ghost use Rattle.cbor_machine.specs.NextEvent.{IfReported};
 ghost use Rattle.theory_verdicts.specs.Refusals.{IsReaderReason};
-ghost use Rattle.cbor_strict.specs.StrictReader.{StrictEventsView, StandsStrictly};
+ghost use Rattle.cbor_strict.specs.StrictReader.{StrictEventsView, AgreesStrictly};
 ghost use Rattle.cbor_strict.specs.StrictReader.{IsNextStrict, limits_of, strict_call};
 ghost use Rattle.cbor_strict.specs.inner.LastKeys.{view_value};
 ghost use Rattle.cbor_strict.specs.inner.StrictEvents.{AreWithinBounds, piece_unless};
@@ -57,7 +57,7 @@ impl Model for StrictEvents {
 impl StrictEvents {
     /// The events of an item of which nothing was read. Allocates nothing.
     pub fn new(alloc: Global, limits: Limits, order: KeyOrder) -> StrictEvents
-        ensures starts { StandsStrictly result [] [] }
+        ensures starts { AgreesStrictly result [] [] }
         ensures limits { limits_of result ≡ limits }
         ensures order { result.order ≡ order }
         ensures piece { result.piece ≡ [] }
@@ -73,7 +73,7 @@ impl StrictEvents {
 
     // Starts again with another item within the same limits, in any state.
     pub(crate) fn restart(&mut self, order: KeyOrder)
-        ensures starts { StandsStrictly self.new [] [] }
+        ensures starts { AgreesStrictly self.new [] [] }
         ensures limits { limits_of self.new ≡ limits_of self.old }
         ensures order { self.new.order ≡ order }
         ensures memory { self.new.refused ≡ false }
@@ -86,7 +86,7 @@ impl StrictEvents {
     // The next event, as `StrictReader::next` returns it.
     pub(crate) fn next<R: Read>(&mut self, reader: &mut R) -> Result<Option<Event>, Refusal>
         // For all bytes and marks of the events reported before.
-        ensures answers { (t : List ℕ) (ms : List Mark) → StandsStrictly self.old t ms
+        ensures returned { (t : List ℕ) (ms : List Mark) → AgreesStrictly self.old t ms
             → IsNextStrict result (strict_call self.old self.new
             (R.remaining reader.old) (R.remaining reader.new) t ms) }
         ensures limits { KeepsLimits self.old.machine self.new.machine }

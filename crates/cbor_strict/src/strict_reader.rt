@@ -11,7 +11,7 @@ ghost use Rattle.cbor_machine.specs.NextEvent.{IfReported};
 ghost use Rattle.theory_verdicts.specs.Readers.{IsRead, IsUnread, IsCanonicalPrefix};
 ghost use Rattle.theory_verdicts.specs.Readers.{HasNoCanonicalPrefix, Loses};
 ghost use Rattle.theory_verdicts.specs.Refusals.{IsReaderReason};
-ghost use Rattle.cbor_strict.specs.StrictReader.{StrictReaderView, StandsStrictly};
+ghost use Rattle.cbor_strict.specs.StrictReader.{StrictReaderView, AgreesStrictly};
 ghost use Rattle.cbor_strict.specs.StrictReader.{IsNextStrict, limits_of, strict_call};
 
 use crate::strict_events::StrictEvents;
@@ -144,7 +144,7 @@ impl<R> Model for StrictReader<R> {
 impl<R: Read> StrictReader<R> {
     /// The events of the item that the reader is at. Allocates nothing.
     pub fn new(alloc: Global, reader: R, limits: Limits, order: KeyOrder) -> StrictReader<R>
-        ensures starts { StandsStrictly result.events [] [] }
+        ensures starts { AgreesStrictly result.events [] [] }
         ensures limits { (result.events.machine.depth ≡ limits.depth)
             × (result.events.machine.bytes ≡ limits.bytes) }
         ensures order { result.events.order ≡ order }
@@ -166,7 +166,7 @@ impl<R: Read> StrictReader<R> {
     /// that the reader holds. After a refusal every later call returns it again and reads nothing.
     pub fn next(&mut self) -> Result<Option<Event>, Refusal>
         // For all bytes and marks of the events reported before.
-        ensures answers { (t : List ℕ) (ms : List Mark) → StandsStrictly self.old.events t ms
+        ensures returned { (t : List ℕ) (ms : List Mark) → AgreesStrictly self.old.events t ms
             → IsNextStrict result (strict_call self.old.events self.new.events
             (R.remaining self.old.reader) (R.remaining self.new.reader) t ms) }
         ensures limits { KeepsLimits self.old.events.machine self.new.events.machine }

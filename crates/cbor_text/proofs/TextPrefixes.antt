@@ -121,8 +121,8 @@ pub rest-unfinished : (bs : List ℕ) (v : ℕ) → IsValidUpTo bs v → IsUnfin
 rest-unfinished bs v h = λ m more within u. h.longest (v + m) (omega arith) (subst IsUtf8 (sym (take-add v m bs)) (IsUtf8-append _ _ h.front u))
 
 -- text may precede it
-pub fixed-behind : (f bs : List ℕ) (n k : ℕ) → IsUtf8 f → IsFixed bs n → length f + n ≡ k → IsFixed (f ++ bs) k
-fixed-behind f bs n k u h e = λ xs.
+pub fixed-following : (f bs : List ℕ) (n k : ℕ) → IsUtf8 f → IsFixed bs n → length f + n ≡ k → IsFixed (f ++ bs) k
+fixed-following f bs n k u h e = λ xs.
     let all : (f ++ bs) ++ xs ≡ f ++ (bs ++ xs) = append_assoc f bs xs in
     let v : IsValidUpTo (drop (length f) (f ++ (bs ++ xs))) n = subst (λ l. IsValidUpTo l n) (sym (drop-append_seam f (bs ++ xs))) (h xs) in
     let w = valid_after (f ++ (bs ++ xs)) (length f) n (omega (arith, length-append f (bs ++ xs))) (subst IsUtf8 (sym (take-append_seam f (bs ++ xs))) u) v in
@@ -132,7 +132,7 @@ pub fixed : (bs : List ℕ) (v k : ℕ) → IsValidUpTo bs v → utf8_error_len 
 fixed bs v k h e =
     let short = h.short in
     let n = never (drop v bs) (omega (arith, length-drop v bs)) (rest-unfinished bs v h) (λ o. let two = sym o ∙ e in cc) in
-    subst (λ l. IsFixed l v) (take-append-drop v bs) (fixed-behind (take v bs) (drop v bs) 0 v h.front n (omega (arith, length-take v bs)))
+    subst (λ l. IsFixed l v) (take-append-drop v bs) (fixed-following (take v bs) (drop v bs) 0 v h.front n (omega (arith, length-take v bs)))
 
 pub fixed-more : (bs piece : List ℕ) (n : ℕ) → IsFixed bs n → IsFixed (bs ++ piece) n
 fixed-more bs piece n h = λ xs. subst (λ l. IsValidUpTo l n) (sym (append_assoc bs piece xs)) (h (piece ++ xs))
@@ -161,8 +161,8 @@ pub open-none : (bs : List ℕ) → IsValidUpTo bs 0 → length bs < 4 → IsOpe
 open-none bs h few = record { prefix = []; joined = refl; valid = IsUtf8-nil; short = few; unfinished = λ m more within u. h.longest m more u }
 
 -- text may precede it
-pub open-behind : (f bs tail : List ℕ) → IsUtf8 f → IsOpen bs tail → IsOpen (f ++ bs) tail
-open-behind f bs tail u h = record {
+pub open-following : (f bs tail : List ℕ) → IsUtf8 f → IsOpen bs tail → IsOpen (f ++ bs) tail
+open-following f bs tail u h = record {
   prefix = f ++ h.prefix;
   joined = ap (λ l. f ++ l) h.joined ∙ sym (append_assoc f h.prefix tail);
   valid = IsUtf8-append _ _ u h.valid;
@@ -175,18 +175,18 @@ open-behind f bs tail u h = record {
 pub open-more : (bs carried piece tail : List ℕ) → IsOpen bs carried → IsOpen (carried ++ piece) tail → IsOpen (bs ++ piece) tail
 open-more bs carried piece tail h k =
     let e : bs ++ piece ≡ h.prefix ++ (carried ++ piece) = ap (λ l. l ++ piece) h.joined ∙ append_assoc h.prefix carried piece in
-    subst (λ l. IsOpen l tail) (sym e) (open-behind h.prefix (carried ++ piece) tail h.valid k)
+    subst (λ l. IsOpen l tail) (sym e) (open-following h.prefix (carried ++ piece) tail h.valid k)
 
 pub open-then-fixed : (bs carried piece : List ℕ) (n k : ℕ) → IsOpen bs carried → IsFixed (carried ++ piece) n → length bs - length carried + n ≡ k → IsFixed (bs ++ piece) k
 open-then-fixed bs carried piece n k h f s =
     let e : bs ++ piece ≡ h.prefix ++ (carried ++ piece) = ap (λ l. l ++ piece) h.joined ∙ append_assoc h.prefix carried piece in
     let size : length h.prefix + n ≡ k = omega (arith, ap length h.joined, length-append h.prefix carried) in
-    subst (λ l. IsFixed l k) (sym e) (fixed-behind h.prefix (carried ++ piece) n k h.valid f size)
+    subst (λ l. IsFixed l k) (sym e) (fixed-following h.prefix (carried ++ piece) n k h.valid f size)
 
 -- ---- the end
 
-pub answers : (bs : List ℕ) (n : ℕ) → IsValidUpTo bs n → (IsUtf8 bs → ⊥) × (n ≡ utf8_valid_len bs)
-answers bs n h = (λ u. h.longest (length bs) h.short (subst IsUtf8 (sym (take_all (length bs) bs (omega arith))) u), sym (utf8_valid_len-IsValidUpTo bs n h))
+pub returned : (bs : List ℕ) (n : ℕ) → IsValidUpTo bs n → (IsUtf8 bs → ⊥) × (n ≡ utf8_valid_len bs)
+returned bs n h = (λ u. h.longest (length bs) h.short (subst IsUtf8 (sym (take_all (length bs) bs (omega arith))) u), sym (utf8_valid_len-IsValidUpTo bs n h))
 
 pub open-short : (bs carried : List ℕ) (n : ℕ) → IsOpen bs carried → 0 < length carried → length bs - length carried ≡ n → IsValidUpTo bs n
 open-short bs carried n h some e =
@@ -236,8 +236,8 @@ module _ (carried piece : List ℕ) (n : ℕ) (u : IsUtf8 (carried ++ take n pie
   rejoined = ap (λ l. (carried ++ take n piece) ++ l) (take_rest piece n) ∙ append_assoc carried (take n piece) (drop n piece) ∙ ap (λ l. carried ++ l) (take-append-drop n piece)
 
   pub past-open : (tail : List ℕ) → IsOpen (take (length piece - n) (drop n piece)) tail → IsOpen (carried ++ piece) tail
-  past-open tail h = subst (λ l. IsOpen l tail) rejoined (open-behind (carried ++ take n piece) _ tail u h)
+  past-open tail h = subst (λ l. IsOpen l tail) rejoined (open-following (carried ++ take n piece) _ tail u h)
 
   pub past-fixed : (m : ℕ) → n ≤ length piece → IsFixed (take (length piece - n) (drop n piece)) m → IsFixed (carried ++ piece) (length carried + n + m)
   past-fixed m within h = subst (λ l. IsFixed l (length carried + n + m)) rejoined
-      (fixed-behind (carried ++ take n piece) _ m (length carried + n + m) u h (omega (arith, length-append carried (take n piece), length-take n piece)))
+      (fixed-following (carried ++ take n piece) _ m (length carried + n + m) u h (omega (arith, length-append carried (take n piece), length-take n piece)))

@@ -9,14 +9,14 @@ use Rattle.theory_verdicts.proofs.Items.{cause-in, cause-prefix, undecided-in, u
 use Rattle.theory_verdicts.proofs.KindBytes.{Begins, keeps_expected, judged_begins, one_head_prefix}
 use Rattle.theory_verdicts.specs.Reading.{IsUndecided, HasCause, IsMemory, IsReached}
 use Rattle.theory_verdicts.{proofs.ItemExpected.ExpectsItem, specs.Judged.IsJudged, specs.Levels.frame, specs.Levels.bytes_before, specs.Place.Container}
-use Rattle.theory_verdicts.{specs.RefusedBehind.IsRefusedBehind, proofs.LevelFrames.around_levels, proofs.LevelFrames.path, proofs.KindFrames.IsAround}
-use Rattle.theory_verdicts.proofs.RefusedBehind.{stopped_by}
+use Rattle.theory_verdicts.{specs.RefusedAfter.IsRefusedAfter, proofs.LevelFrames.around_levels, proofs.LevelFrames.path, proofs.KindFrames.IsAround}
+use Rattle.theory_verdicts.proofs.RefusedAfter.{stopped_by}
 use Rattle.cbor_tree_reader.specs.{declared.tree_items.TreeItems.TreeItems, inner.ItemPrefix.IsExpectedAt, inner.TreeItems.AreApart}
 use Rattle.cbor_tree_reader.proofs.{PartKinds.basic-prefix, PathFrames.found_within}
 
 module _ (v : TreeItems) (b : Bounds) (e : ItemEventsView) (t : List ℕ) (d : IsExpectedAt v b e t) where
   pub few : length (bytes_before d.ls) < 2 ^ 63
-  few = let at = d.at in let taken = d.taken in omega (arith, at.stands.stands.taken, at.stands.stands.limited, at.bytes, at.limits.1, ap length taken)
+  few = let at = d.at in let taken = d.taken in omega (arith, at.agrees.agrees.taken, at.agrees.agrees.limited, at.bytes, at.limits.1, ap length taken)
 
   abbrev gs : List Container
   gs = map frame d.ls
@@ -49,7 +49,7 @@ module _ (v : TreeItems) (b : Bounds) (e : ItemEventsView) (t : List ℕ) (d : I
         keeps_expected b plain expects.around x (subst (λ (n : ℕ). Begins n x) expects.space (judged_begins plain (length t) (b.depth - length gs) x found j)) (one_head_prefix x last (subst IsOfOneHead e one))
         (λ asked expected. basic-prefix x last (subst HasBasicPrefix e (basic asked expected))) d.keeps
 
-    pub refused-item : (from to : Option (List ℕ)) (f : Refusal) → Consumes from to bytes → f.read ≡ length (t ++ bytes) → (IsMemory f × IsReached b (t ++ bytes) × IsUndecided plain b gs t bytes) ⊎ HasCause plain b gs t bytes to f → IsRefusedBehind plain b t from to f
+    pub refused-item : (from to : Option (List ℕ)) (f : Refusal) → Consumes from to bytes → f.read ≡ length (t ++ bytes) → (IsMemory f × IsReached b (t ++ bytes) × IsUndecided plain b gs t bytes) ⊎ HasCause plain b gs t bytes to f → IsRefusedAfter plain b t from to f
     refused-item from to f consumed read why = elim why [
       | inl m ↦ stopped_by plain b t from to f bytes consumed read (inl (m.0, m.1, undecided-in plain b [] gs [] t expects.lift bytes m.2))
           (λ rest is. subst (KeepsToKinds b plain) (sym (undecided-prefix plain b [] gs [] t expects.lift bytes m.2)) (keeps-split m.2.p m.2.last None m.2.splits m.2.judged))

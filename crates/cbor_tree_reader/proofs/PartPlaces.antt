@@ -16,7 +16,7 @@ use Rattle.theory_verdicts.specs.Place.{Container, Place, at_item, expect, Ends,
 use Rattle.theory_verdicts.specs.Levels.{Level, a_member, a_key, some_member, some_key, tagged, frame, AreLevels, bytes_before, ParseState, item_expected, item_full}
 use Rattle.theory_verdicts.specs.Reading.{string_major, IsBegun, ReadsItem, string_value}
 use Rattle.theory_verdicts.proofs.Scalars.{reads-unsigned, reads-negative, reads-simple}
-use Rattle.theory_verdicts.{proofs.Items.is-definite, specs.Given.opens, specs.Given.StandsAt, proofs.Members.closes, proofs.Heads.open_or}
+use Rattle.theory_verdicts.{proofs.Items.is-definite, specs.Given.opens, specs.Given.AgreesAt, proofs.Members.closes, proofs.Heads.open_or}
 use Rattle.theory_verdicts.proofs.{Given.full-array, Given.full-map, Loops.array_bytes-whole, Loops.map_bytes-whole, Steps.fault_of}
 use Rattle.cbor_tree_reader.specs.inner.TreeItems.{HaveBegun, HaveBegunIn, HasItsPlace}
 use Rattle.cbor_tree_reader.specs.inner.PlainParts.{IsCome, leaf_value, IsLeafMajor}
@@ -58,22 +58,22 @@ module _ (b : Bounds) (fs : List Container) (t x : List ℕ) (e : ItemEventsView
 
 -- ---- where a part leads
 
-pub stands-as : (o : KeyOrder) (d : ℕ) (x : ParseState) (t u : List ℕ) (q p : Place) (os ps : List Open) (h k : ℕ) → t ≡ u → q ≡ p → os ≡ ps → h ≡ k → StandsAt o d t q os h x → StandsAt o d u p ps k x
-stands-as o d x t u q p os ps h k e f g j s =
-    subst (λ (n : ℕ). StandsAt o d u p ps n x) j (subst (λ (y : List Open). StandsAt o d u p y h x) g (subst (λ (y : Place). StandsAt o d u y os h x) f (subst (λ (y : List ℕ). StandsAt o d y q os h x) e s)))
+pub agrees-as : (o : KeyOrder) (d : ℕ) (x : ParseState) (t u : List ℕ) (q p : Place) (os ps : List Open) (h k : ℕ) → t ≡ u → q ≡ p → os ≡ ps → h ≡ k → AgreesAt o d t q os h x → AgreesAt o d u p ps k x
+agrees-as o d x t u q p os ps h k e f g j s =
+    subst (λ (n : ℕ). AgreesAt o d u p ps n x) j (subst (λ (y : List Open). AgreesAt o d u p y h x) g (subst (λ (y : Place). AgreesAt o d u y os h x) f (subst (λ (y : List ℕ). AgreesAt o d y q os h x) e s)))
 
 pub record IsPlaced (o : KeyOrder) (d : ℕ) (t : List ℕ) (q : Place) (os : List Open) (height : ℕ) (xs : List ℕ) (vs : List OpenValue) : Type 0 where
   pub open_levels : ParseState
-  pub stands : StandsAt o d t q os height open_levels
+  pub agrees : AgreesAt o d t q os height open_levels
   pub begun : HaveBegunIn xs open_levels
   pub place : HasItsPlace xs open_levels
   pub right : IsFullRight open_levels
   pub values : vs ≡ values_at open_levels
 
 -- an item is full
-full-here : (o : KeyOrder) (d : ℕ) (ls : List Level) (s : Spelling) (t : List ℕ) (q : Place) (os : List Open) (h : ℕ) (xs : List ℕ) (vs : List OpenValue) → StandsAt o d t q os h (item_full ls s) → HaveBegun xs ls
+full-here : (o : KeyOrder) (d : ℕ) (ls : List Level) (s : Spelling) (t : List ℕ) (q : Place) (os : List Open) (h : ℕ) (xs : List ℕ) (vs : List OpenValue) → AgreesAt o d t q os h (item_full ls s) → HaveBegun xs ls
     → slice_get xs (length ls) ≡ Some (length (bytes_before ls)) → IsFullRight (item_full ls s) → vs ≡ values_at (item_full ls s) → IsPlaced o d t q os h xs vs
-full-here o d ls s t q os h xs vs stands begun place right values = record { open_levels = item_full ls s; stands = stands; begun = begun; place = place; right = right; values = values }
+full-here o d ls s t q os h xs vs agrees begun place right values = record { open_levels = item_full ls s; agrees = agrees; begun = begun; place = place; right = right; values = values }
 
 module _ (o : KeyOrder) (b : Bounds) (ls : List Level) (levels : AreLevels b.depth ls) (xs : List ℕ) (begun : HaveBegun xs ls) (here : slice_get xs (length ls) ≡ Some (length (bytes_before ls))) where
   abbrev fs : List Container
@@ -86,7 +86,7 @@ module _ (o : KeyOrder) (b : Bounds) (ls : List Level) (levels : AreLevels b.dep
   expected-here : (l : Level) (x : List ℕ) (next : Place) (os : List Open) (vs : List OpenValue) → AreLevels b.depth (l ∷ ls) → bytes_before ls ++ x ≡ bytes_before (l ∷ ls) → next ≡ at_item (map frame (l ∷ ls)) → os ≡ opens o (l ∷ ls)
       → HasItsPlace xs (item_expected (l ∷ ls)) → vs ≡ values_at (item_expected (l ∷ ls)) → IsPlaced o b.depth (bytes_before ls ++ x) next os (suc (length ls)) xs vs
   expected-here l x next os vs inner bytes follows are place values =
-      record { open_levels = item_expected (l ∷ ls); stands = (inner, bytes, follows, are, refl); begun = (here, begun); place = place; right = tt; values = values }
+      record { open_levels = item_expected (l ∷ ls); agrees = (inner, bytes, follows, are, refl); begun = (here, begun); place = place; right = tt; values = values }
 
   array-begins : (k : ℕ) (w : Width) (next : Place) → Holds w k → length fs < b.depth → next ≡ expect k fs → IsPlaced o b.depth (bytes_before ls ++ head majors.Array w k) next (an_array 0 [] ∷ opens o ls) (suc (length ls)) xs (trees.an_array [] ∷ level_values ls)
   array-begins zero w next holds space follows =

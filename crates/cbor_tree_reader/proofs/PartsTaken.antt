@@ -19,9 +19,9 @@ use Rattle.theory_verdicts.specs.Levels.{IsTaken, Level, a_member, some_member, 
 use Rattle.theory_verdicts.specs.Reading.{IsAt, IsUndecided, IsNextHead, ReadsItem, StopsItem, string_value}
 use Rattle.theory_verdicts.proofs.Items.{extends-by, extends-in, taking-some}
 use Rattle.theory_verdicts.proofs.{KindBytes.item_basic, ItemExpected.basic-event, ItemExpected.head-keeps}
-use Rattle.theory_verdicts.{specs.Given.opens, specs.Given.StandsAt, proofs.KindFrames.keeps_on, proofs.ParseState.open-is, proofs.ParseState.short-at}
+use Rattle.theory_verdicts.{specs.Given.opens, specs.Given.AgreesAt, proofs.KindFrames.keeps_on, proofs.ParseState.open-is, proofs.ParseState.short-at}
 use Rattle.theory_verdicts.proofs.{Levels.clean-anywhere, Given.settled, Undecided.item-undecided, Undecided.mark-undecided, Steps.at-reached}
-use Rattle.theory_verdicts.{proofs.RefusedBehind.stopped_behind, specs.RefusedBehind.IsRefusedBehind, proofs.Valid.count_bounded}
+use Rattle.theory_verdicts.{proofs.RefusedAfter.stopped_after, specs.RefusedAfter.IsRefusedAfter, proofs.Valid.count_bounded}
 use Rattle.cbor_tree_reader.specs.declared.item_part.ItemPart.TheVariants.{Leaf, String, Begin, Break}
 use Rattle.cbor_tree_reader.specs.inner.TreeItems.{AreApartSoFar, HaveBegun, CanTake, IsGiven, IsEndingAt, sets, AreKeysBegun}
 use Rattle.cbor_tree_reader.specs.inner.PlainParts.{IsCome, leaf_value, BeginsString, IsStill, ReadsPart}
@@ -31,7 +31,7 @@ use Rattle.cbor_tree_reader.proofs.ExpectedRefusals.{few, expects, refused-item,
 use Rattle.cbor_tree_reader.proofs.TreeValues.{values-given, settles-right, tree-step}
 use Rattle.cbor_tree_reader.proofs.PartKinds.{basic-more, mark-string, string-item, head-item, HoldsNone, leaf-holds-none, string-holds-none, no-kinds, keeps-broken}
 use Rattle.cbor_tree_reader.proofs.Paths.{given-apart, opened-apart, so-far, settled-begun, settled-place, begun-more, begun-space, begins-at}
-use Rattle.cbor_tree_reader.proofs.PartPlaces.{IsPlaced, breaks, leaf-canonical, opens-by, stands-as, string-canonical}
+use Rattle.cbor_tree_reader.proofs.PartPlaces.{IsPlaced, breaks, leaf-canonical, opens-by, agrees-as, string-canonical}
 use Rattle.cbor_tree_reader.specs.declared.{tree_items.TreeItems.TreeItems, item_part.ItemPart.ItemPart}
 use Rattle.cbor_tree_reader.specs.{inner.ItemPrefix.IsExpectedAt, inner.ItemPrefix.IsNextExpected, declared.key_set.KeySet.KeySet}
 use Rattle.cbor_tree_reader.specs.inner.HeldKeys.{AreHeld, AreHeldSoFar}
@@ -105,9 +105,9 @@ module _ (v : TreeItems) (b : Bounds) (e : ItemEventsView) (t : List ℕ) (d : I
         q = q;
         at = at;
         open_levels = l.open_levels;
-        stands = subst (λ (o : KeyOrder). StandsAt o b.depth (t ++ x) q now.builder.open_levels (height + count) l.open_levels) (sym (ap (λ (g : Built). g.order) is))
-            (stands-as v.builder.order b.depth l.open_levels (bytes_before d.ls ++ x) (t ++ x) q q os now.builder.open_levels (length d.ls + count) (height + count) (ap (λ (y : List ℕ). y ++ x) (sym d.taken)) refl
-            (sym (ap (λ (g : Built). g.open_levels) is)) (omega (arith, level)) l.stands);
+        agrees = subst (λ (o : KeyOrder). AgreesAt o b.depth (t ++ x) q now.builder.open_levels (height + count) l.open_levels) (sym (ap (λ (g : Built). g.order) is))
+            (agrees-as v.builder.order b.depth l.open_levels (bytes_before d.ls ++ x) (t ++ x) q q os now.builder.open_levels (length d.ls + count) (height + count) (ap (λ (y : List ℕ). y ++ x) (sym d.taken)) refl
+            (sym (ap (λ (g : Built). g.open_levels) is)) (omega (arith, level)) l.agrees);
         apart = subst AreApartSoFar (sym (ap (λ (g : Built). g.open_levels) is)) apart;
         begun = l.begun;
         place = l.place;
@@ -154,7 +154,7 @@ module _ (v : TreeItems) (b : Bounds) (e : ItemEventsView) (t : List ℕ) (d : I
               placed-ending now height place same same_place starts same_kinds part (trees.give u (level_values d.ls)) values-so step (spell m.item) (close gs) os count m.at
               (record {
                 open_levels = settle d.ls m.item;
-                stands = stands-as o b.depth (settle d.ls m.item) _ (bytes_before d.ls ++ spell m.item) (close gs) (close gs) _ os (length d.ls) (length d.ls + count) refl refl os_is (omega (arith, g.1)) (settled o b.depth d.ls m.item d.levels is short);
+                agrees = agrees-as o b.depth (settle d.ls m.item) _ (bytes_before d.ls ++ spell m.item) (close gs) (close gs) _ os (length d.ls) (length d.ls + count) refl refl os_is (omega (arith, g.1)) (settled o b.depth d.ls m.item d.levels is short);
                 begun = settled-begun now.starts.items d.ls m.item begun;
                 place = settled-place now.starts.items d.ls m.item begun here;
                 right = settles-right d.ls m.item;
@@ -231,7 +231,7 @@ module _ (v : TreeItems) (b : Bounds) (e : ItemEventsView) (t : List ℕ) (d : I
     part-taken part read = take-read part (read gs t n.bytes ev.width came)
 
     -- a part that is refused
-    pub refused-part : (f : Refusal) → ((fs : List Container) (s x : List ℕ) (w : Width) → IsCome b fs s x after w ev.kind → BeginsString ev.kind × StopsItem plain b fs s x mid to f) → IsRefusedBehind plain b t from to f
+    pub refused-part : (f : Refusal) → ((fs : List Container) (s x : List ℕ) (w : Width) → IsCome b fs s x after w ev.kind → BeginsString ev.kind × StopsItem plain b fs s x mid to f) → IsRefusedAfter plain b t from to f
     refused-part f refused =
         let h = refused gs t n.bytes ev.width came in
         let s = h.1 in
@@ -250,7 +250,7 @@ module _ (v : TreeItems) (b : Bounds) (e : ItemEventsView) (t : List ℕ) (d : I
         go Break r = (tt, tt)
 
     -- memory is refused after it
-    pub part-no-memory : (part : ItemPart) → IsPartTaken part → (f : Refusal) → f.reason ≡ Memory → f.place ≡ f.read → f.read ≡ new.machine.taken → IsRefusedBehind plain b t from to f
+    pub part-no-memory : (part : ItemPart) → IsPartTaken part → (f : Refusal) → f.reason ≡ Memory → f.place ≡ f.read → f.read ≡ new.machine.taken → IsRefusedAfter plain b t from to f
     part-no-memory part k f is place read =
         let reached = at-reached b new (t ++ k.bytes) k.q k.at in
-        stopped_behind plain b t from to f k.bytes k.consumed reached.begins k.keeps (record { read = read ∙ k.at.stands.stands.taken; why = inl ((is, place), reached, k.undecided) })
+        stopped_after plain b t from to f k.bytes k.consumed reached.begins k.keeps (record { read = read ∙ k.at.agrees.agrees.taken; why = inl ((is, place), reached, k.undecided) })

@@ -10,7 +10,7 @@ use Rattle.cbor_builder.specs.Built.{HasKey, IsRepeatedKey, keys_so_far, AreAllD
 use Rattle.cbor_builder.proofs.KeysSoFar.{distinct_different}
 use Rattle.theory_verdicts.specs.Levels.{IsTaken, Level, AreLevels, bytes_before}
 use Rattle.theory_verdicts.specs.{Judged.IsJudged, Given.opens}
-use Rattle.cbor_parser.{proofs.LevelPaths.found_of_whole, proofs.LevelPaths.repeat_of_whole, proofs.Repeats.repeated_by_bytes, specs.Sink.IsKeyBehind}
+use Rattle.cbor_parser.{proofs.LevelPaths.found_of_whole, proofs.LevelPaths.repeat_of_whole, proofs.Repeats.repeated_by_bytes, specs.Sink.IsKeyAfter}
 use Rattle.cbor_tree_reader.{specs.inner.TreeItems.HasKeysApart, specs.inner.TreeItems.AreApart, proofs.Paths.distinct-more}
 
 -- ---- its keys
@@ -35,8 +35,8 @@ found_within o d ls p found h short apart = found_of_whole o d ls p found h shor
 -- ---- a key that is the same as an earlier one
 
 -- in such a map it is the first complaint
-pub repeat_found : (o : KeyOrder) (d : ℕ) (ls : List Level) (l : Level) (done : SpelledEntries) → IsKeyBehind l done → AreLevels d (l ∷ ls) → length (bytes_before (l ∷ ls)) < 2 ^ 63 → AreApart (opens o (l ∷ ls))
+pub repeat_found : (o : KeyOrder) (d : ℕ) (ls : List Level) (l : Level) (done : SpelledEntries) → IsKeyAfter l done → AreLevels d (l ∷ ls) → length (bytes_before (l ∷ ls)) < 2 ^ 63 → AreApart (opens o (l ∷ ls))
     → (k : Spelling) → IsTaken (d - suc (length ls)) k → length (spell k) < 2 ^ 63 → HasKey (canonical_entries o (entries_of done)) (canonical o (value_of k))
     → IsJudged plain 0 d (bytes_before (l ∷ ls) ++ spell k) (Some (complaint.complaint (length (bytes_before (l ∷ ls)) + length (spell k)) (length (bytes_before (l ∷ ls))) RepeatedKey))
-repeat_found o d ls l done behind levels short apart k i key_short repeat =
-    repeat_of_whole o d ls l done behind levels short (apart-different (opens o (l ∷ ls)) apart) k i (repeated_by_bytes o d (d - suc (length ls)) ls l done behind levels short k i key_short repeat)
+repeat_found o d ls l done following levels short apart k i key_short repeat =
+    repeat_of_whole o d ls l done following levels short (apart-different (opens o (l ∷ ls)) apart) k i (repeated_by_bytes o d (d - suc (length ls)) ls l done following levels short k i key_short repeat)

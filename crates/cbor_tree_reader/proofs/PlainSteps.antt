@@ -29,11 +29,11 @@ module _ (v new : TreeItems) (b : Bounds) (e after : ItemEventsView) (t : List �
   takes-on g = record {
     bytes = h.bytes ++ g.bytes;
     consumed = Consumes-trans from now to h.bytes g.bytes h.consumed g.consumed;
-    expected = subst (IsExpectedAt new b after) (append_assoc t h.bytes g.bytes) g.stands;
+    expected = subst (IsExpectedAt new b after) (append_assoc t h.bytes g.bytes) g.agrees;
   }
 
   pub takes-farther : TakesNext true new b after (t ++ h.bytes) now to → after.machine.bytes - after.machine.taken < e.machine.bytes - e.machine.taken
-  takes-farther g = farther b e after (t ++ h.bytes) ((t ++ h.bytes) ++ g.bytes) _ _ h.expected.at g.stands.at (omega (arith, g.some, length-append (t ++ h.bytes) g.bytes))
+  takes-farther g = farther b e after (t ++ h.bytes) ((t ++ h.bytes) ++ g.bytes) _ _ h.expected.at g.agrees.at (omega (arith, g.some, length-append (t ++ h.bytes) g.bytes))
 
   -- the last part
   pub takes-all : TakesNext false new b after (t ++ h.bytes) now to → TakesNext false new b after t from to
@@ -41,7 +41,7 @@ module _ (v new : TreeItems) (b : Bounds) (e after : ItemEventsView) (t : List �
     bytes = h.bytes ++ g.bytes;
     some = omega (arith, g.some, length-append h.bytes g.bytes);
     consumed = Consumes-trans from now to h.bytes g.bytes h.consumed g.consumed;
-    stands = subst (IsWholeAt new b after) (append_assoc t h.bytes g.bytes) g.stands;
+    agrees = subst (IsWholeAt new b after) (append_assoc t h.bytes g.bytes) g.agrees;
   }
 
 -- ---- the whole item
@@ -66,9 +66,9 @@ expected-first v b e is tree held asked at =
     }
 
 pub prefix-whole : (v : TreeItems) (b : Bounds) (new : ItemEventsView) (from to : Option (List ℕ)) (count : ℕ) → AreBounds b → (g : TakesNext false v b new [] from to) → count ≡ new.machine.taken
-    → IsPrefixRead plain b from to (value_of g.stands.item) count
+    → IsPrefixRead plain b from to (value_of g.agrees.item) count
 prefix-whole v b new from to count l g c =
-    let x = g.stands in
+    let x = g.agrees in
     prefix-read b from to new (value_of x.item) count l
     (record {
       item = x.item;

@@ -18,12 +18,12 @@ canonical-of s h l clean deep =
 pub prefix-read : (b : Bounds) (from to : Option (List ℕ)) (new : ItemEventsView) (v : Value) (count : ℕ) → AreBounds b → (i : ReadsItem plain b [] [] [] from to new v) → KeepsToKinds b plain (spell i.item) → count ≡ new.machine.taken
     → IsPrefixRead plain b from to v count
 prefix-read b from to new v count l i keeps e =
-    let sized : count ≡ length (spell i.item) = e ∙ i.at.stands.stands.taken in
+    let sized : count ≡ length (spell i.item) = e ∙ i.at.agrees.agrees.taken in
     record {
       read = known from (λ input. IsReadAs b plain input v count)
           (λ input k. subst (IsReadAs b plain input v) (sym sized) (item-read plain b input from to k new v i keeps));
       taken = loses (spell i.item) count from to sized i.taken;
       bounded = subst (λ (w : Value). size w ≤ count) i.value (subst (λ (n : ℕ). size (value_of i.item) ≤ n) (sym sized) (size_bounded i.item));
       sound = subst HasCanonicalBytes i.value
-          (canonical-of i.item i.spelled (omega (arith, i.at.stands.stands.taken, i.at.stands.stands.limited, i.at.bytes, l.1)) i.clean (omega (arith, i.within, l.0)));
+          (canonical-of i.item i.spelled (omega (arith, i.at.agrees.agrees.taken, i.at.agrees.agrees.limited, i.at.bytes, l.1)) i.clean (omega (arith, i.within, l.0)));
     }

@@ -1,7 +1,7 @@
 //! The parts of an item, as the tree reader reads them.
 
 ghost use Rattle.std.specs.Prelude.{◌≡◌, IfErr, IsTrue};
-ghost use Rattle.cbor_tree_reader.specs.inner.PlainParts.{HasCome, AnswersPart};
+ghost use Rattle.cbor_tree_reader.specs.inner.PlainParts.{HasCome, ReturnsPart};
 
 use crate::strings::read_string;
 use cbor_events::{ItemEvents, head_of};
@@ -33,7 +33,7 @@ pub(crate) fn read_part<R: Read>(
 ) -> Result<ItemPart, Refusal>
     requires { HasCome events.old kind }
     ensures memory { IfErr result (λ f. f.reason ≡ Reason.Memory → IsTrue memory.new) }
-    ensures part { AnswersPart events.old kind
+    ensures part { ReturnsPart events.old kind
         (R.remaining reader.old) (R.remaining reader.new) events.new result }
 {
     match kind {

@@ -5,7 +5,7 @@ ghost use Rattle.cbor_head.specs.Complaint.{plain};
 ghost use Rattle.cbor_item.specs.View.{view};
 ghost use Rattle.cbor_tree_reader.specs.Prefix.{IsPrefixRead};
 ghost use Rattle.theory_verdicts.specs.Reading.{IsPrefixUnread};
-ghost use Rattle.cbor_tree_reader.specs.inner.ItemPrefix.{IsExpectedSomewhere, AnswersNextPart, AnswersParts};
+ghost use Rattle.cbor_tree_reader.specs.inner.ItemPrefix.{IsExpectedSomewhere, ReturnsNextPart, ReturnsParts};
 
 use crate::item_part::read_part;
 use crate::payload::no_memory;
@@ -32,8 +32,8 @@ pub(crate) fn read_item_prefix<R: Read>(
         × (events.new.machine.bytes ≡ limits.bytes)) }
     ensures memory { IfErr result (λ f. f.reason ≡ Reason.Memory → IsTrue memory.new) }
     ensures prefix { MatchResult result
-        (λ answer. IsPrefixRead plain limits
-        (R.remaining reader.old) (R.remaining reader.new) (view answer.0) answer.1)
+        (λ outcome. IsPrefixRead plain limits
+        (R.remaining reader.old) (R.remaining reader.new) (view outcome.0) outcome.1)
         (λ f. IsPrefixUnread plain limits (R.remaining reader.old) (R.remaining reader.new) f) }
 {
     events.restart();
@@ -58,7 +58,7 @@ fn read_parts<R: Read>(
 ) -> Result<(), Refusal>
     requires { IsExpectedSomewhere items.old events.old }
     ensures memory { IfErr result (λ f. f.reason ≡ Reason.Memory → IsTrue memory.new) }
-    ensures parts { AnswersParts items.old items.new events.old events.new
+    ensures parts { ReturnsParts items.old items.new events.old events.new
         (R.remaining reader.old) (R.remaining reader.new) result }
 {
     'parts: loop {
@@ -80,7 +80,7 @@ fn next_part<R: Read>(
 ) -> Result<bool, Refusal>
     requires { IsExpectedSomewhere items.old events.old }
     ensures memory { IfErr result (λ f. f.reason ≡ Reason.Memory → IsTrue memory.new) }
-    ensures part { AnswersNextPart items.old items.new events.old events.new
+    ensures part { ReturnsNextPart items.old items.new events.old events.new
         (R.remaining reader.old) (R.remaining reader.new) result }
 {
     let height = events.open();

@@ -1,7 +1,7 @@
 //! The bytes of strings.
 
 ghost use Rattle.std.specs.Prelude.{◌≡◌, IfErr, IsTrue, false};
-ghost use Rattle.theory_verdicts.specs.Reading.{IsPayloadExpected, AnswersPayload};
+ghost use Rattle.theory_verdicts.specs.Reading.{IsPayloadExpected, ReturnsPayload};
 
 use cbor_events::ItemEvents;
 use cbor_head::{Reason, Refusal};
@@ -29,7 +29,7 @@ pub(crate) fn read_payload<R: Read>(
 ) -> Result<(), Refusal>
     requires { IsPayloadExpected events.old count }
     ensures memory { IfErr result (λ f. f.reason ≡ Reason.Memory → IsTrue memory.new) }
-    ensures payload { AnswersPayload false events.old count into.old.items into.new.items
+    ensures payload { ReturnsPayload false events.old count into.old.items into.new.items
         (R.remaining reader.old) (R.remaining reader.new) events.new result }
 {
     let mut left = count;
@@ -61,7 +61,7 @@ pub(crate) fn read_chunk<R: Read>(
 ) -> Result<(), Refusal>
     requires { IsPayloadExpected events.old count }
     ensures memory { IfErr result (λ f. f.reason ≡ Reason.Memory → IsTrue memory.new) }
-    ensures payload { AnswersPayload text events.old count into.old.items into.new.items
+    ensures payload { ReturnsPayload text events.old count into.old.items into.new.items
         (R.remaining reader.old) (R.remaining reader.new) events.new result }
 {
     let from = into.len();

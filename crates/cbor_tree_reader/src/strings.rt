@@ -3,7 +3,7 @@
 ghost use Rattle.std.specs.Prelude.{◌≡◌, IfErr, IsTrue, None};
 ghost use Rattle.cbor_head.specs.Complaint.{plain};
 ghost use Rattle.theory_verdicts.specs.Reading.{HasBegun, string_kind};
-ghost use Rattle.cbor_tree_reader.specs.inner.PlainParts.{AnswersString};
+ghost use Rattle.cbor_tree_reader.specs.inner.PlainParts.{ReturnsString};
 
 use crate::payload::read_chunk;
 use cbor_events::ItemEvents;
@@ -23,7 +23,7 @@ pub(crate) fn read_string<R: Read>(
 ) -> Result<Vec<u8>, Refusal>
     requires { HasBegun plain events.old (string_kind text length) }
     ensures memory { IfErr result (λ f. f.reason ≡ Reason.Memory → IsTrue memory.new) }
-    ensures string { AnswersString text length events.old
+    ensures string { ReturnsString text length events.old
         (R.remaining reader.old) (R.remaining reader.new) events.new result }
 {
     match length {
@@ -48,7 +48,7 @@ fn read_chunks<R: Read>(
 ) -> Result<Vec<u8>, Refusal>
     requires { HasBegun plain events.old (string_kind text None) }
     ensures memory { IfErr result (λ f. f.reason ≡ Reason.Memory → IsTrue memory.new) }
-    ensures string { AnswersString text None events.old
+    ensures string { ReturnsString text None events.old
         (R.remaining reader.old) (R.remaining reader.new) events.new result }
 {
     let mut content = Vec::new(alloc);

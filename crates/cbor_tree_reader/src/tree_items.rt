@@ -11,9 +11,9 @@ ghost use Rattle.theory_verdicts.specs.Levels.{item_expected, item_whole};
 ghost use Rattle.cbor_tree_reader.specs.TreeValues.{IsForTree, IsTreeAt, values_with};
 ghost use Rattle.cbor_tree_reader.specs.declared.key_set.KeySet.{KeySet as KeySetView};
 ghost use Rattle.cbor_tree_reader.specs.inner.HeldKeys.{AreHeld};
-ghost use Rattle.cbor_tree_reader.specs.inner.TreeItems.{CanTake, IsGiven, IsEnding, AnswersEnds};
-ghost use Rattle.cbor_tree_reader.specs.inner.TreeItems.{sets, AreKeysBegun, AnswersKey};
-ghost use Rattle.cbor_tree_reader.specs.inner.ItemPrefix.{IsExpectedSomewhere, AnswersExpected};
+ghost use Rattle.cbor_tree_reader.specs.inner.TreeItems.{CanTake, IsGiven, IsEnding, ReturnsEnds};
+ghost use Rattle.cbor_tree_reader.specs.inner.TreeItems.{sets, AreKeysBegun, ReturnsKey};
+ghost use Rattle.cbor_tree_reader.specs.inner.ItemPrefix.{IsExpectedSomewhere, ReturnsExpected};
 
 use crate::item_part::ItemPart;
 use crate::key_set::KeySet;
@@ -81,7 +81,7 @@ impl TreeItems {
     ) -> Result<Event, Refusal>
         requires { IsExpectedSomewhere self.now events.old }
         ensures reason { IfErr result (λ f. f.reason ≢ Reason.Memory) }
-        ensures expected { AnswersExpected self.now events.old
+        ensures expected { ReturnsExpected self.now events.old
             (R.remaining reader.old) (R.remaining reader.new) events.new result }
     {
         match events.next_by_kind(self.asks(), reader) {
@@ -151,7 +151,7 @@ impl TreeItems {
         ensures kept { OnOk result (memory.new ≡ memory.old) }
         ensures refused { OnErr result (IsTrue memory.new) }
         ensures same { self.new.starts ≡ self.old.starts }
-        ensures ends { AnswersEnds self.old self.new height «open» result }
+        ensures ends { ReturnsEnds self.old self.new height «open» result }
     {
         let mut left = height;
         'full: while left > open {
@@ -176,7 +176,7 @@ impl TreeItems {
             × (self.new.kinds ≡ self.old.kinds) }
         ensures kept { OnOk result (memory.new ≡ memory.old) }
         ensures refused { OnErr result (IsTrue memory.new) }
-        ensures answers { AnswersKey self.old self.new «open» result }
+        ensures returned { ReturnsKey self.old self.new «open» result }
     {
         let Some(key) = self.builder.waiting_key() else {
             return Ok(None);

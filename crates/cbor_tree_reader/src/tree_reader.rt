@@ -28,11 +28,11 @@ pub fn read_tree<R: Read>(
     reader: &mut R,
     limits: Limits,
 ) -> Result<(Tree, u64), Refusal>
-    ensures accepted { IfOk result (λ answer. IfSome (R.remaining reader.old)
-        (λ input. IsReadAs limits plain input (view answer.0) answer.1)) }
+    ensures accepted { IfOk result (λ outcome. IfSome (R.remaining reader.old)
+        (λ input. IsReadAs limits plain input (view outcome.0) outcome.1)) }
     ensures taken { IfOk result
-        (λ answer. Loses answer.1 (R.remaining reader.old) (R.remaining reader.new)) }
-    ensures bounded { IfOk result (λ answer. size (view answer.0) ≤ answer.1) }
+        (λ outcome. Loses outcome.1 (R.remaining reader.old) (R.remaining reader.new)) }
+    ensures bounded { IfOk result (λ outcome. size (view outcome.0) ≤ outcome.1) }
     ensures refused { IfErr result (λ f. IfSome (R.remaining reader.old)
         (λ input. IsUnread limits plain input f)) }
     ensures reason { IfErr result (λ f. IsReaderReason limits plain f.reason) }
@@ -51,11 +51,11 @@ pub fn read_tree_in<R: Read>(
     limits: Limits,
 ) -> Result<(Tree, u64), Refusal>
     ensures memory { IfErr result (λ f. f.reason ≡ Reason.Memory → IsTrue memory.new) }
-    ensures accepted { IfOk result (λ answer. IfSome (R.remaining reader.old)
-        (λ input. IsReadAs limits plain input (view answer.0) answer.1)) }
+    ensures accepted { IfOk result (λ outcome. IfSome (R.remaining reader.old)
+        (λ input. IsReadAs limits plain input (view outcome.0) outcome.1)) }
     ensures taken { IfOk result
-        (λ answer. Loses answer.1 (R.remaining reader.old) (R.remaining reader.new)) }
-    ensures bounded { IfOk result (λ answer. size (view answer.0) ≤ answer.1) }
+        (λ outcome. Loses outcome.1 (R.remaining reader.old) (R.remaining reader.new)) }
+    ensures bounded { IfOk result (λ outcome. size (view outcome.0) ≤ outcome.1) }
     ensures refused { IfErr result (λ f. IfSome (R.remaining reader.old)
         (λ input. IsUnread limits plain input f)) }
     ensures reason { IfErr result (λ f. IsReaderReason limits plain f.reason) }
@@ -78,11 +78,11 @@ pub fn read_tree_by<R: Read>(
     ensures limits { OnOk result ((events.new.machine.depth ≡ limits.depth)
         × (events.new.machine.bytes ≡ limits.bytes)) }
     ensures memory { IfErr result (λ f. f.reason ≡ Reason.Memory → IsTrue memory.new) }
-    ensures accepted { IfOk result (λ answer. IfSome (R.remaining reader.old)
-        (λ input. IsReadAs limits plain input (view answer.0) answer.1)) }
+    ensures accepted { IfOk result (λ outcome. IfSome (R.remaining reader.old)
+        (λ input. IsReadAs limits plain input (view outcome.0) outcome.1)) }
     ensures taken { IfOk result
-        (λ answer. Loses answer.1 (R.remaining reader.old) (R.remaining reader.new)) }
-    ensures bounded { IfOk result (λ answer. size (view answer.0) ≤ answer.1) }
+        (λ outcome. Loses outcome.1 (R.remaining reader.old) (R.remaining reader.new)) }
+    ensures bounded { IfOk result (λ outcome. size (view outcome.0) ≤ outcome.1) }
     ensures refused { IfErr result (λ f. IfSome (R.remaining reader.old)
         (λ input. IsUnread limits plain input f)) }
     ensures reason { IfErr result (λ f. IsReaderReason limits plain f.reason) }

@@ -10,18 +10,18 @@ use Rattle.cbor_writer.specs.declared.writer.Writer.{Writer}
 pub both_written : (xs h b : List ℕ) (n middle end : ℕ) → middle ≡ n + length h → end ≡ middle + length b → end ≤ length xs
     → (let once = take n xs ++ (h ++ drop (middle - n) (drop n xs)) in take middle once ++ (b ++ drop (end - middle) (drop middle once))) ≡ take n xs ++ ((h ++ b) ++ drop (n + length (h ++ b)) xs)
 both_written xs h b n middle end m e fits =
-    let behind = drop (middle - n) (drop n xs) in
+    let following = drop (middle - n) (drop n xs) in
     let prefix = take n xs ++ h in
     let long : middle ≡ length prefix = omega (arith, length-append (take n xs) h, length-take n xs, m, e, fits) in
-    let regroup : take n xs ++ (h ++ behind) ≡ prefix ++ behind = sym (append_assoc (take n xs) h behind) in
-    let before : take middle (take n xs ++ (h ++ behind)) ≡ prefix = (λ i. take (long i) (regroup i)) ∙ take-append_seam prefix behind in
-    let after : drop middle (take n xs ++ (h ++ behind)) ≡ behind = (λ i. drop (long i) (regroup i)) ∙ drop-append_seam prefix behind in
+    let regroup : take n xs ++ (h ++ following) ≡ prefix ++ following = sym (append_assoc (take n xs) h following) in
+    let before : take middle (take n xs ++ (h ++ following)) ≡ prefix = (λ i. take (long i) (regroup i)) ∙ take-append_seam prefix following in
+    let after : drop middle (take n xs ++ (h ++ following)) ≡ following = (λ i. drop (long i) (regroup i)) ∙ drop-append_seam prefix following in
     let last : n + (middle - n) + (end - middle) ≡ n + length (h ++ b) = omega (arith, length-append h b, m, e) in
-    let rest : drop (end - middle) behind ≡ drop (n + length (h ++ b)) xs =
+    let rest : drop (end - middle) following ≡ drop (n + length (h ++ b)) xs =
     ap (drop (end - middle)) (drop-drop (middle - n) n xs) ∙ drop-drop (end - middle) (n + (middle - n)) xs ∙ ap (λ k. drop k xs) last in
     (λ i. before i ++ (b ++ drop (end - middle) (after i)))
-    ∙ append_assoc (take n xs) h (b ++ drop (end - middle) behind)
-    ∙ ap (λ (ys : List ℕ). take n xs ++ ys) (sym (append_assoc h b (drop (end - middle) behind)))
+    ∙ append_assoc (take n xs) h (b ++ drop (end - middle) following)
+    ∙ ap (λ (ys : List ℕ). take n xs ++ ys) (sym (append_assoc h b (drop (end - middle) following)))
     ∙ ap (λ (ys : List ℕ). take n xs ++ ((h ++ b) ++ ys)) rest
 
 -- a write over the same number of bytes

@@ -9,7 +9,7 @@ use Rattle.cbor_machine.specs.declared.step.Out.TheVariants as outs
 use Rattle.cbor_machine.specs.{Machine.KeepsLimits, Machine.IsMore, declared.step.Out.Out}
 use Rattle.theory_verdicts.specs.Readers as readers
 use Rattle.cbor_reader.specs.WholeItem.{IsItemRefusal, unread, trailing}
-use Rattle.cbor_stream.specs.StrictMachine.{StrictMachineView, StandsAmid, limits_of}
+use Rattle.cbor_stream.specs.StrictMachine.{StrictMachineView, AgreesAmid, limits_of}
 use Rattle.cbor_stream.specs.Said.{Tells, Says, SaysMore, SaysDone, SaysRefused}
 use Rattle.cbor_stream.proofs.Checking.{limits_same}
 use Rattle.cborc_files.specs.Folder.{Files, KeepsFiles, IsThere}
@@ -24,7 +24,7 @@ pub record IsCheckedTo (held : Option Files) (path : List ℕ) (options : Option
   pub taken : List ℕ
   pub marks : List Mark
   pub read : IsReadTo held path options.hex taken p
-  pub stands : StandsAmid m taken marks
+  pub agrees : AgreesAmid m taken marks
   pub limits_are : limits_of m ≡ options.limits
   pub order_is : m.order ≡ o
 
@@ -37,7 +37,7 @@ pub starts_ended : (held : Option Files) (path : List ℕ) (options : Options) (
 starts_ended held path options rules p r ended = record {
   input = p.rest;
   is = input_ended held held path options.hex [] p (same_files held) r ended;
-  behind = [];
+  following = [];
   splits = append-nil p.rest;
   enough = inl refl;
 }
@@ -49,7 +49,7 @@ next_checked held path options o m old new now keeps c n = record {
   taken = c.taken;
   marks = c.marks;
   read = next_part held now path options.hex c.taken old new keeps c.read n;
-  stands = c.stands;
+  agrees = c.agrees;
   limits_are = c.limits_are;
   order_is = c.order_is;
 }
@@ -88,8 +88,8 @@ taken_to held path options o was m old p c used within rest start source limits 
     }
 
 module _ (held : Option Files) (path : List ℕ) (options : Options) (o : KeyOrder) (m : StrictMachineView) (p : PartsView) (all : List ℕ) (a : IsTakenTo held path options o m p all) where
-  checked_to : (ms : List Mark) → StandsAmid m all ms → IsCheckedTo held path options o m p
-  checked_to ms s = record { taken = all; marks = ms; read = a.read; stands = s; limits_are = a.limits_are; order_is = a.order_is }
+  checked_to : (ms : List Mark) → AgreesAmid m all ms → IsCheckedTo held path options o m p
+  checked_to ms s = record { taken = all; marks = ms; read = a.read; agrees = s; limits_are = a.limits_are; order_is = a.order_is }
 
   pub more_checked : SaysMore m all → IsCheckedTo held path options o m p
   more_checked h = checked_to h.0.0 h.0.1
@@ -122,9 +122,9 @@ module _ (held : Option Files) (path : List ℕ) (options : Options) (o : KeyOrd
     refused_there out said f out-is is fault e =
         let says : SaysRefused f m all = subst (λ (x : Out). Says x m all) out-is said in
         let k = input_there held now path options.hex all p keeps a.read is in
-        refuses f ((all ++ p.rest) ++ k.behind) k.is
-        (by_verdict f ((all ++ p.rest) ++ k.behind) (λ no. told f ((all ++ p.rest) ++ k.behind)
-        (subst (λ (b : List ℕ). Tells (limits_of m) m.order b (Err f)) (sym (append_assoc all p.rest k.behind)) (says.1 no (p.rest ++ k.behind))))) fault e
+        refuses f ((all ++ p.rest) ++ k.following) k.is
+        (by_verdict f ((all ++ p.rest) ++ k.following) (λ no. told f ((all ++ p.rest) ++ k.following)
+        (subst (λ (b : List ℕ). Tells (limits_of m) m.order b (Err f)) (sym (append_assoc all p.rest k.following)) (says.1 no (p.rest ++ k.following))))) fault e
 
     pub no_part_there : (fault : Fault) → IsNoPart now path p.source fault → IsNoWholeInput (strict o) options path held fault
     no_part_there fault h = no_input (strict o) options path held fault (no_next_part held now path options.hex all p keeps a.read fault h)
@@ -136,7 +136,7 @@ module _ (held : Option Files) (path : List ℕ) (options : Options) (o : KeyOrd
     whole_there out said out-is is none ended n n-is =
         let says : SaysDone m all = subst (λ (x : Out). Says x m all) out-is said in
         let k = input_there held now path options.hex all p keeps a.read is in
-        let same : (all ++ p.rest) ++ k.behind ≡ all ++ [] =
+        let same : (all ++ p.rest) ++ k.following ≡ all ++ [] =
         ap (λ (b : List ℕ). (all ++ p.rest) ++ b) (k.end ended) ∙ append-nil (all ++ p.rest) ∙ ap (λ (b : List ℕ). all ++ b) none in
         let count : n ≡ length all = n-is ∙ a.read.start_is in
         record {
@@ -150,17 +150,17 @@ module _ (held : Option Files) (path : List ℕ) (options : Options) (o : KeyOrd
     followed_there out said out-is is some n n-is f f-is fault e =
         let says : SaysDone m all = subst (λ (x : Out). Says x m all) out-is said in
         let k = input_there held now path options.hex all p keeps a.read is in
-        let input : List ℕ = (all ++ p.rest) ++ k.behind in
+        let input : List ℕ = (all ++ p.rest) ++ k.following in
         let count : n ≡ length all = n-is ∙ a.read.start_is in
-        let read-it = told_size (length all) input (subst (λ (b : List ℕ). Tells (limits_of m) m.order b (Ok (length all))) (sym (append_assoc all p.rest k.behind)) (says.1 (p.rest ++ k.behind)).0) in
+        let read-it = told_size (length all) input (subst (λ (b : List ℕ). Tells (limits_of m) m.order b (Ok (length all))) (sym (append_assoc all p.rest k.following)) (says.1 (p.rest ++ k.following)).0) in
         refuses f input k.is
         (λ own. trailing n (subst (readers.IsRead options.limits (strict o) input) (sym count) read-it)
-        (omega (arith, count, length-append (all ++ p.rest) k.behind, length-append all p.rest, longer p.rest some)) f-is) fault e
+        (omega (arith, count, length-append (all ++ p.rest) k.following, length-append all p.rest, longer p.rest some)) f-is) fault e
 
     pub cut_there : SaysMore m all → p.rest ≡ [] → p.source.ended ≡ true → (n : ℕ) → n ≡ m.machine.taken → (fault : Fault) → fault ≡ refusal_fault (refusal reasons.Truncated n n)
         → IsNoWholeInput (strict o) options path held fault
     cut_there says none ended n n-is fault e =
-        let count : n ≡ length all = n-is ∙ says.0.1.stands.taken in
+        let count : n ≡ length all = n-is ∙ says.0.1.agrees.taken in
         let is = subst (λ (b : List ℕ). IsInput held path options.hex b) (ap (λ (b : List ℕ). all ++ b) none ∙ append-nil all) (input_ended held now path options.hex all p keeps a.read ended) in
         refuses (refusal reasons.Truncated n n) all is
         (by_verdict (refusal reasons.Truncated n n) all (λ no. told (refusal reasons.Truncated n n) all

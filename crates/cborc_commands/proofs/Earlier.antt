@@ -3,7 +3,7 @@ use Rattle.std.proofs.Common.{ℕ, inl, inr, List, Option}
 use Rattle.cbor_head.specs.Prelude.{Spelling}
 use Rattle.cborc_files.specs.Folder.{Files, KeepsFiles}
 use Rattle.cborc_words.specs.declared.request.Options.{Options}
-use Rattle.cborc_commands.specs.inner.Items.{AreWrittenOf, AreStoppedOf, no_input, behind_no_input, within}
+use Rattle.cborc_commands.specs.inner.Items.{AreWrittenOf, AreStoppedOf, no_input, after_no_input, within}
 use Rattle.cborc_commands.{proofs.Files.input_before, proofs.Files.prefix_before, specs.Sequences.AreFirst, specs.declared.fault.Fault.Fault}
 use Rattle.cborc_commands.proofs.NoInput.{no_input_before}
 
@@ -20,6 +20,6 @@ module _ (takes : Spelling → Type 0) (text : ℕ → Spelling → List ℕ) (o
       → AreStoppedOf takes text stops options source a from to fault
   stopped_before stops fault (no_input why w) =
       no_input (no_input_before a b source options.hex fault keeps why) (record { items = w.items; first = first_before w.items w.first; written = w.written })
-  stopped_before stops fault (behind_no_input why prefix is cause h) =
-      behind_no_input (no_input_before a b source options.hex fault keeps why) prefix (prefix_before a b source options.hex prefix keeps is) cause h
+  stopped_before stops fault (after_no_input why prefix is cause h) =
+      after_no_input (no_input_before a b source options.hex fault keeps why) prefix (prefix_before a b source options.hex prefix keeps is) cause h
   stopped_before stops fault (within input is h) = within input (input_before a b source options.hex input keeps is) h

@@ -27,7 +27,7 @@ module _ (o : KeyOrder) (options : Options) (source : List ℕ) (output : Output
       → IsCanonicalText options.limits o output.form s.input text
   text_whole bytes text s t = record {
     canonical = t.canonical;
-    is = subst (λ (b : List ℕ). IsCanonicalOf options.limits o b t.canonical) s.splits (canonical_whole options.limits bytes s.behind s.enough o t.canonical t.is);
+    is = subst (λ (b : List ℕ). IsCanonicalOf options.limits o b t.canonical) s.splits (canonical_whole options.limits bytes s.following s.enough o t.canonical t.is);
     formed = t.formed;
   }
 
@@ -51,7 +51,7 @@ module _ (o : KeyOrder) (options : Options) (source : List ℕ) (output : Output
   no_text before after bytes s (faults.Refused f) h = (
     s.input,
     s.is,
-    subst (λ (b : List ℕ). IsRefusal options.limits o b f) s.splits (refusal_whole options.limits bytes s.behind s.enough o f h.0),
+    subst (λ (b : List ℕ). IsRefusal options.limits o b f) s.splits (refusal_whole options.limits bytes s.following s.enough o f h.0),
     h.1,
   )
   no_text before after bytes s faults.Memory h = input_is_there held source options.hex s.input s.is
@@ -79,7 +79,7 @@ module _ (rules : Rules) (options : Options) (source : List ℕ) (held : Option 
   whole_input size w = record {
     input = s.input;
     is = s.is;
-    whole = subst (λ (b : List ℕ). IsWhole options.limits rules b size) s.splits (is_whole rules options.limits bytes s.behind s.enough size w);
+    whole = subst (λ (b : List ℕ). IsWhole options.limits rules b size) s.splits (is_whole rules options.limits bytes s.following s.enough size w);
   }
 
   pub not_whole : (f : Refusal) → (IsOfInput f.reason → IsItemRefusal options.limits rules bytes f) → (fault : Fault) → fault ≡ refusal_fault f
@@ -88,7 +88,7 @@ module _ (rules : Rules) (options : Options) (source : List ℕ) (held : Option 
       refusal_is (IsNoWholeInput rules options source held) f fault e (λ own. (
         s.input,
         s.is,
-        subst (λ (b : List ℕ). IsItemRefusal options.limits rules b f) s.splits (item_refusal_whole rules options.limits bytes s.behind s.enough f (h own)),
+        subst (λ (b : List ℕ). IsItemRefusal options.limits rules b f) s.splits (item_refusal_whole rules options.limits bytes s.following s.enough f (h own)),
         own,
       )) (λ other. input_is_there held source options.hex s.input s.is)
 
@@ -100,7 +100,7 @@ module _ (options : Options) (source : List ℕ) (held : Option Files) (bytes : 
     read_whole : IsReadAs options.limits plain s.input (value_of w.0.item) (length s.input)
     read_whole =
         subst (λ (b : List ℕ). IsReadAs options.limits plain b (value_of w.0.item) (length b)) s.splits
-        (is_all_of options.limits bytes s.behind s.enough (value_of w.0.item) (read_as options.limits bytes size w))
+        (is_all_of options.limits bytes s.following s.enough (value_of w.0.item) (read_as options.limits bytes size w))
 
     shown_by : (text_style : TextStyle) (Reported : List ℕ → Type 0) → Reported (shown_text text_style (value_of w.0.item)) → IsShownOf text_style options source held Reported
     shown_by text_style Reported h = record { input = s.input; is = s.is; value = value_of w.0.item; whole = read_whole; reported = h }
@@ -127,7 +127,7 @@ module _ (options : Options) (source : List ℕ) (held : Option Files) (bytes : 
       refusal_is (IsNotShown text_style options source held before after) f fault e (λ own. (
         s.input,
         s.is,
-        subst (λ (b : List ℕ). IsItemRefusal options.limits plain b f) s.splits (item_refusal_whole plain options.limits bytes s.behind s.enough f (h own)),
+        subst (λ (b : List ℕ). IsItemRefusal options.limits plain b f) s.splits (item_refusal_whole plain options.limits bytes s.following s.enough f (h own)),
         own,
       )) (λ other. (input_is_there held source options.hex s.input s.is, keeps))
 
@@ -139,12 +139,12 @@ module _ (options : Options) (source : List ℕ) (held : Option Files) (bytes : 
   listed_of style before after h = record {
     input = s.input;
     is = s.is;
-    listed = subst (λ (b : List ℕ). AreListed style 0 options.limits b (length b) before after) s.splits (listed_whole options.limits bytes s.behind s.enough style before after h);
+    listed = subst (λ (b : List ℕ). AreListed style 0 options.limits b (length b) before after) s.splits (listed_whole options.limits bytes s.following s.enough style before after h);
   }
 
   listed_so : (style : EventStyle) (before after : Option (List ℕ)) (fault : Fault) → IsNotListed style options.limits bytes before after fault
       → IsNotListed style options.limits s.input before after fault
-  listed_so style before after fault h = subst (λ (b : List ℕ). IsNotListed style options.limits b before after fault) s.splits (not_listed_whole options.limits bytes s.behind s.enough style before after fault h)
+  listed_so style before after fault h = subst (λ (b : List ℕ). IsNotListed style options.limits b before after fault) s.splits (not_listed_whole options.limits bytes s.following s.enough style before after fault h)
 
   pub not_listed_of : (style : EventStyle) (before after : Option (List ℕ)) (fault : Fault) → IsNotListed style options.limits bytes before after fault
       → IsNotListedOf style options source held before after fault
@@ -152,31 +152,31 @@ module _ (options : Options) (source : List ℕ) (held : Option Files) (bytes : 
 
 -- ---- `compare`
 
-module _ (limits : Bounds) (left left_behind right right_behind : List ℕ) (enough : IsEnough plain limits left left_behind) (enough_too : IsEnough plain limits right right_behind)
+module _ (limits : Bounds) (left after_left right after_right : List ℕ) (enough : IsEnough plain limits left after_left) (enough_too : IsEnough plain limits right after_right)
     (are : AreAccepted limits left) (are_too : AreAccepted limits right) where
-  prefixes_equal : IsWholeItem limits left × IsWholeItem limits right → (left ≡ left ++ left_behind) × (right ≡ right ++ right_behind)
-  prefixes_equal (l, r) = (whole_item limits left left_behind enough are l, whole_item limits right right_behind enough_too are_too r)
+  prefixes_equal : IsWholeItem limits left × IsWholeItem limits right → (left ≡ left ++ after_left) × (right ≡ right ++ after_right)
+  prefixes_equal (l, r) = (whole_item limits left after_left enough are l, whole_item limits right after_right enough_too are_too r)
 
   same_prefixes : (Reported : List ℕ → Type 0) (status : Status) → IsReported limits left right Reported status
-      → (left ≡ left ++ left_behind) × (right ≡ right ++ right_behind) → IsReported limits (left ++ left_behind) (right ++ right_behind) Reported status
+      → (left ≡ left ++ after_left) × (right ≡ right ++ after_right) → IsReported limits (left ++ after_left) (right ++ after_right) Reported status
   same_prefixes Reported status h (l, r) =
-      subst (λ (x : List ℕ). IsReported limits (left ++ left_behind) x Reported status) r
+      subst (λ (x : List ℕ). IsReported limits (left ++ after_left) x Reported status) r
       (subst (λ (x : List ℕ). IsReported limits x right Reported status) l h)
 
-  pub reported_whole : (Reported : List ℕ → Type 0) (status : Status) → IsReported limits left right Reported status → IsReported limits (left ++ left_behind) (right ++ right_behind) Reported status
+  pub reported_whole : (Reported : List ℕ → Type 0) (status : Status) → IsReported limits left right Reported status → IsReported limits (left ++ after_left) (right ++ after_right) Reported status
   reported_whole Reported statuses.Accepted h = same_prefixes Reported statuses.Accepted h (prefixes_equal h.0)
   reported_whole Reported statuses.Refused h = same_prefixes Reported statuses.Refused h (prefixes_equal h.0)
   reported_whole Reported _ h = absurd h
 
-  left_whole : IsWholeItem limits left → IsWholeItem limits (left ++ left_behind)
-  left_whole l = subst (IsWholeItem limits) (whole_item limits left left_behind enough are l) l
+  left_whole : IsWholeItem limits left → IsWholeItem limits (left ++ after_left)
+  left_whole l = subst (IsWholeItem limits) (whole_item limits left after_left enough are l) l
 
-  side_whole : (side : Side) (f : Refusal) → IsSideRefusal limits left right side f → IsSideRefusal limits (left ++ left_behind) (right ++ right_behind) side f
-  side_whole Left f h = item_refusal_whole plain limits left left_behind enough f h
-  side_whole Right f (l, h) = (left_whole l, item_refusal_whole plain limits right right_behind enough_too f h)
+  side_whole : (side : Side) (f : Refusal) → IsSideRefusal limits left right side f → IsSideRefusal limits (left ++ after_left) (right ++ after_right) side f
+  side_whole Left f h = item_refusal_whole plain limits left after_left enough f h
+  side_whole Right f (l, h) = (left_whole l, item_refusal_whole plain limits right after_right enough_too f h)
 
   pub unreported_whole : (before after : Option (List ℕ)) (fault : Fault) → IsUnreported limits left right before after fault
-      → IsUnreported limits (left ++ left_behind) (right ++ right_behind) before after fault
+      → IsUnreported limits (left ++ after_left) (right ++ after_right) before after fault
   unreported_whole before after (faults.LeftRefused f) (h, own) = (side_whole Left f h, own)
   unreported_whole before after (faults.RightRefused f) (h, own) = (side_whole Right f h, own)
   unreported_whole before after faults.Memory (side, f, h, e) = (side, f, side_whole side f h, e)
@@ -195,8 +195,8 @@ module _ (options : Options) (left right : List ℕ) (old mid : Option Files) (k
     second = t.input;
     are = both;
     reported = subst (λ (x : List ℕ). IsReported options.limits s.input x (Appends before after) status) t.splits
-        (subst (λ (x : List ℕ). IsReported options.limits x (second ++ t.behind) (Appends before after) status) s.splits
-        (reported_whole options.limits first s.behind second t.behind s.enough t.enough are are_too (Appends before after) status h));
+        (subst (λ (x : List ℕ). IsReported options.limits x (second ++ t.following) (Appends before after) status) s.splits
+        (reported_whole options.limits first s.following second t.following s.enough t.enough are are_too (Appends before after) status h));
   }
 
   pub not_compared : (before after : Option (List ℕ)) (fault : Fault) → IsUnreported options.limits first second before after fault
@@ -207,6 +207,6 @@ module _ (options : Options) (left right : List ℕ) (old mid : Option Files) (k
         second = t.input;
         are = both;
         unreported = subst (λ (x : List ℕ). IsUnreported options.limits s.input x before after fault) t.splits
-            (subst (λ (x : List ℕ). IsUnreported options.limits x (second ++ t.behind) before after fault) s.splits
-            (unreported_whole options.limits first s.behind second t.behind s.enough t.enough are are_too before after fault h));
+            (subst (λ (x : List ℕ). IsUnreported options.limits x (second ++ t.following) before after fault) s.splits
+            (unreported_whole options.limits first s.following second t.following s.enough t.enough are are_too before after fault h));
       })

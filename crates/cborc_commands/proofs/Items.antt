@@ -6,7 +6,7 @@ use Rattle.theory_values.proofs.ReadLaws.{length_spell}
 use Rattle.cbor_reader.specs.Sequence.{sequence_bytes, EndsBefore}
 use Rattle.cborc_files.specs.Folder.{Files, KeepsFiles}
 use Rattle.cborc_words.specs.declared.request.Options.{Options}
-use Rattle.cborc_commands.specs.inner.Items.{IsWritten, AreWrittenOf, AreStopped, AreStoppedOf, no_input, behind_no_input, within}
+use Rattle.cborc_commands.specs.inner.Items.{IsWritten, AreWrittenOf, AreStopped, AreStoppedOf, no_input, after_no_input, within}
 use Rattle.cborc_commands.specs.inner.Parts.{PartsView, IsReadTo, IsNextPart}
 use Rattle.cborc_commands.specs.inner.Sources.{IsNoPart, HasInput, HasNoInput}
 use Rattle.cborc_commands.proofs.ReadParts.{next_part, took, prefix_there, input_ended, input_there, no_input_there, no_next_part, weight}
@@ -104,24 +104,24 @@ module _ (takes : Spelling → Type 0) (text : ℕ → Spelling → List ℕ) (o
 
     -- no item is accepted there, however the input continues
     module _ (stops : ℕ → List ℕ → Fault → Option (List ℕ) → Option (List ℕ) → Type 0) (begun : ¬ EndsBefore options.limits.bytes old.rest) (after : Option (List ℕ)) (fault : Fault)
-        (why : (behind : List ℕ) → (old.source.ended ≡ true → behind ≡ []) → stops old.start (old.rest ++ behind) fault middle after) where
-      stopped_at : (behind input : List ℕ) → (old.source.ended ≡ true → behind ≡ []) → (sequence_bytes h.items ++ old.rest) ++ behind ≡ input
+        (why : (following : List ℕ) → (old.source.ended ≡ true → following ≡ []) → stops old.start (old.rest ++ following) fault middle after) where
+      stopped_at : (following input : List ℕ) → (old.source.ended ≡ true → following ≡ []) → (sequence_bytes h.items ++ old.rest) ++ following ≡ input
           → AreStopped takes text stops options.limits.bytes input before after (at_item (count + 1) old.start fault)
-      stopped_at behind input end is = record {
+      stopped_at following input end is = record {
         items = h.items;
-        rest = old.rest ++ behind;
+        rest = old.rest ++ following;
         index = count + 1;
         start = old.start;
         goes_on = record {
-          starts = record { each = h.each; bytes = sym (append_assoc (sequence_bytes h.items) old.rest behind) ∙ is };
+          starts = record { each = h.each; bytes = sym (append_assoc (sequence_bytes h.items) old.rest following) ∙ is };
           index_is = omega (arith, h.count_is);
           start_is = h.read.start_is;
-          begun = λ e. begun (nil_from_length old.rest (omega (arith, ap length e.0, length-append old.rest behind)), e.1);
+          begun = λ e. begun (nil_from_length old.rest (omega (arith, ap length e.0, length-append old.rest following)), e.1);
         };
         middle = middle;
         written = h.written;
         cause = fault;
-        stopped = why behind end;
+        stopped = why following end;
         fault_is = refl;
       }
 
@@ -129,13 +129,13 @@ module _ (takes : Spelling → Type 0) (text : ℕ → Spelling → List ℕ) (o
           → AreStoppedOf takes text stops options source held before after (at_item (count + 1) old.start fault)
       stopped_there now keeps there =
           let k = input_there held now source options.hex (sequence_bytes h.items) old keeps h.read there in
-          within ((sequence_bytes h.items ++ old.rest) ++ k.behind) k.is (stopped_at k.behind ((sequence_bytes h.items ++ old.rest) ++ k.behind) k.end refl)
+          within ((sequence_bytes h.items ++ old.rest) ++ k.following) k.is (stopped_at k.following ((sequence_bytes h.items ++ old.rest) ++ k.following) k.end refl)
 
       -- and then the input is found to be missing
       pub stopped_without : (now : Option Files) (other : Fault) → KeepsFiles held now → HasNoInput now source old.source other
           → AreStoppedOf takes text stops options source held before after other
       stopped_without now other keeps none =
-          behind_no_input (no_input_there held now source options.hex (sequence_bytes h.items) old keeps h.read other none) (sequence_bytes h.items ++ old.rest)
+          after_no_input (no_input_there held now source options.hex (sequence_bytes h.items) old keeps h.read other none) (sequence_bytes h.items ++ old.rest)
           (prefix_there held source options.hex (sequence_bytes h.items) old h.read) (at_item (count + 1) old.start fault)
           (stopped_at [] (sequence_bytes h.items ++ old.rest) (λ e. refl) (append-nil (sequence_bytes h.items ++ old.rest)))
 

@@ -4,7 +4,7 @@ use Rattle.cbor_head.specs.Prelude.{form, Bounds, refused, IsFormError, IsVerdic
 use Rattle.cbor_head.specs.{Laws.Decides, declared.reason.Refusal.Refusal}
 use Rattle.cbor_machine.proofs.Form.{never}
 
-form_place : (limits : Bounds) (p behind : List ℕ) (f : Refusal) → IsFormError limits p behind f → f.place ≤ length p
+form_place : (limits : Bounds) (p following : List ℕ) (f : Refusal) → IsFormError limits p following f → f.place ≤ length p
 form_place limits p (c ∷ rest) f (reason, why, e) = omega (arith, ap (λ (x : Refusal). x.place) e)
 form_place limits p [] f (inl h) = omega (arith, h.0, ap (λ (x : Refusal). x.place) h.1)
 form_place limits p [] f (inr h) = omega (arith, ap (λ (x : Refusal). x.place) h.1)

@@ -71,9 +71,9 @@ pub parts_enough : (rules : Rules) (held now : Option Files) (path : List ℕ) (
 parts_enough rules held now path options p keeps r h ends bytes same =
     let k = input_there held now path options.hex [] p keeps r h in
     subst (StartsInput rules held path options) (sym same) (record {
-      input = p.rest ++ k.behind;
+      input = p.rest ++ k.following;
       is = k.is;
-      behind = k.behind;
+      following = k.following;
       splits = refl;
       enough = elim ends [ inl e ↦ inl (k.end e) | inr d ↦ inr d ];
     })

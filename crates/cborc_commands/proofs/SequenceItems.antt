@@ -11,13 +11,13 @@ texts_anywhere text start (s ∷ ss) = ap (λ (x : List ℕ). text s ++ x) (text
 
 -- one more item
 module _ (takes : Spelling → Type 0) (input : List ℕ) (items : List Spelling) (rest : List ℕ) (h : StartsWithEach takes input items rest) where
-  pub one_more_starts : (item : Spelling) (behind : List ℕ) → takes item → spell item ++ behind ≡ rest
-      → StartsWithEach takes input (items ++ item ∷ []) behind × (0 < length (items ++ item ∷ []))
-  one_more_starts item behind t e = (
+  pub one_more_starts : (item : Spelling) (following : List ℕ) → takes item → spell item ++ following ≡ rest
+      → StartsWithEach takes input (items ++ item ∷ []) following × (0 < length (items ++ item ∷ []))
+  one_more_starts item following t e = (
     record {
       each = all_with takes items item h.each t;
       bytes =
-          ap (λ (x : List ℕ). x ++ behind) (joined_with spell items item) ∙ append_assoc (sequence_bytes items) (spell item) behind
+          ap (λ (x : List ℕ). x ++ following) (joined_with spell items item) ∙ append_assoc (sequence_bytes items) (spell item) following
           ∙ ap (λ (x : List ℕ). sequence_bytes items ++ x) e ∙ h.bytes;
     },
     omega (arith, length-append items (item ∷ [])),

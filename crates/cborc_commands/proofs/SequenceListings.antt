@@ -28,15 +28,15 @@ module _ (style : EventStyle) (start : ℕ) (limits : Bounds) (bytes : List ℕ)
       written_of limits form bytes size read (IsAccepted limits form) (item_lines style start) before after (item_accepted limits form bytes size read)
       (appends_more before middle after (gap start) (event_lines style start h.item) g h.written)
 
-  module _ (behind : List ℕ) where
-    refused_so : (f : Refusal) → IsOfInput f.reason → (f.reason ≡ reasons.Write → ⊥) → (IsVerdict limits form bytes (refused f) → IsSettled behind f) → AreUnlisted style start limits bytes f middle after
-        → IsItemNotListed style limits start (bytes ++ behind) (faults.Refused f) before after
+  module _ (following : List ℕ) where
+    refused_so : (f : Refusal) → IsOfInput f.reason → (f.reason ≡ reasons.Write → ⊥) → (IsVerdict limits form bytes (refused f) → IsSettled following f) → AreUnlisted style start limits bytes f middle after
+        → IsItemNotListed style limits start (bytes ++ following) (faults.Refused f) before after
     refused_so f own apart known (of_verdict out v l a) = (
       gap start ++ out,
       record {
-        verdict = verdict_further limits form bytes behind f (known v) v;
+        verdict = verdict_further limits form bytes following f (known v) v;
         so_far = out;
-        lines = subst (λ (t : List ℕ). AreLines style start limits.depth t out) (sym (take-append-le f.place bytes behind (place_within limits bytes f v))) l;
+        lines = subst (λ (t : List ℕ). AreLines style start limits.depth t out) (sym (take-append-le f.place bytes following (place_within limits bytes f v))) l;
         is = refl;
       },
       appends_more before middle after (gap start) out g a,
@@ -44,34 +44,34 @@ module _ (style : EventStyle) (start : ℕ) (limits : Bounds) (bytes : List ℕ)
     refused_so f own apart known (of_reader out e v l a) = absurd (subst IsOfInput (ap (λ (x : Refusal). x.reason) e) own)
     refused_so f own apart known (of_writer out e s a) = absurd (apart (ap (λ (x : Refusal). x.reason) e))
 
-    cut_off : (f : Refusal) → f.reason ≡ reasons.Write → f.read ≤ length bytes → AreUnlisted style start limits bytes f middle after → IsItemNotListed style limits start (bytes ++ behind) faults.CannotPrint before after
+    cut_off : (f : Refusal) → f.reason ≡ reasons.Write → f.read ≤ length bytes → AreUnlisted style start limits bytes f middle after → IsItemNotListed style limits start (bytes ++ following) faults.CannotPrint before after
     cut_off f is l (of_verdict out v t a) = absurd (verdict_not limits bytes f v is)
     cut_off f is l (of_reader out e v t a) = let t : reasons.Read ≡ reasons.Write = sym (ap (λ (x : Refusal). x.reason) e) ∙ is in absurd (cc t)
     cut_off f is l (of_writer out e s a) = (
       gap start ++ out,
-      within f.read out (subst (λ (t : List ℕ). AreLinesCut style start limits.depth t out) (sym (take-append-le f.read bytes behind l)) s) refl,
+      within f.read out (subst (λ (t : List ℕ). AreLinesCut style start limits.depth t out) (sym (take-append-le f.read bytes following l)) s) refl,
       appends_more before middle after (gap start) out g a,
     )
 
-    listed_in_part : (f : Refusal) → f.read ≤ length bytes → AreUnlisted style start limits bytes f middle after → IsItemNotListed style limits start (bytes ++ behind) faults.Memory before after
+    listed_in_part : (f : Refusal) → f.read ≤ length bytes → AreUnlisted style start limits bytes f middle after → IsItemNotListed style limits start (bytes ++ following) faults.Memory before after
     listed_in_part f l (of_verdict out v t a) = (
       gap start ++ out,
-      listed_to f.place out (subst (λ (x : List ℕ). AreLines style start limits.depth x out) (sym (take-append-le f.place bytes behind (place_within limits bytes f v))) t) refl,
+      listed_to f.place out (subst (λ (x : List ℕ). AreLines style start limits.depth x out) (sym (take-append-le f.place bytes following (place_within limits bytes f v))) t) refl,
       appends_more before middle after (gap start) out g a,
     )
     listed_in_part f l (of_reader out e v t a) = (
       gap start ++ out,
-      listed_to f.read out (subst (λ (x : List ℕ). AreLines style start limits.depth x out) (sym (take-append-le f.read bytes behind l)) t) refl,
+      listed_to f.read out (subst (λ (x : List ℕ). AreLines style start limits.depth x out) (sym (take-append-le f.read bytes following l)) t) refl,
       appends_more before middle after (gap start) out g a,
     )
     listed_in_part f l (of_writer out e s a) = (
       gap start ++ out,
-      listed_short (within f.read out (subst (λ (x : List ℕ). AreLinesCut style start limits.depth x out) (sym (take-append-le f.read bytes behind l)) s) refl),
+      listed_short (within f.read out (subst (λ (x : List ℕ). AreLinesCut style start limits.depth x out) (sym (take-append-le f.read bytes following l)) s) refl),
       appends_more before middle after (gap start) out g a,
     )
 
-    pub item_not_listed : ((f : Refusal) → IsVerdict limits form bytes (refused f) → IsSettled behind f) → (fault : Fault) → IsPrefixNotListed style start limits bytes middle after fault
-        → IsItemNotListed style limits start (bytes ++ behind) fault before after
+    pub item_not_listed : ((f : Refusal) → IsVerdict limits form bytes (refused f) → IsSettled following f) → (fault : Fault) → IsPrefixNotListed style start limits bytes middle after fault
+        → IsItemNotListed style limits start (bytes ++ following) fault before after
     item_not_listed known (faults.Refused f) (own, apart, u, l) = refused_so f own apart (known f) u
     item_not_listed known faults.CannotPrint (f, u, l, e) = cut_off f e l u
     item_not_listed known faults.Memory (f, u, l, e) = listed_in_part f l u

@@ -111,13 +111,13 @@ module _ (held : Option Files) (path prefix back bytes : List ℕ) (d : DigitsVi
 module _ (held : Option Files) (path : List ℕ) (s : Source) (bytes : List ℕ) (g : HasGiven held path s bytes) where
   pub input_known : IsKnown s → StartsInputAt held path s.hex bytes s.ended
   input_known (inl e) = record {
-    behind = [];
+    following = [];
     is = subst (IsInput held path s.hex) (sym (append-nil bytes))
         (whole_input held path g.prefix g.file.back bytes s.digits (g.file.end e) g.file.holds s.hex g.gives (g.all e));
     end = λ e. refl;
   }
   input_known (inr raw) = record {
-    behind = g.file.back;
+    following = g.file.back;
     is = subst (λ (hex : Bool). IsInput held path hex (bytes ++ g.file.back)) (sym raw)
         (subst (λ (xs : List ℕ). Holds held path (xs ++ g.file.back)) (sym (subst (λ (hex : Bool). Gives hex s.digits g.prefix bytes) raw g.gives)) g.file.holds);
     end = g.file.end;
@@ -130,23 +130,23 @@ module _ (held : Option Files) (path : List ℕ) (s : Source) (bytes : List ℕ)
       by : (ended : Bool) → s.ended ≡ ended → StartsInputAt held path s.hex bytes s.ended
       by true e = input_known (inl e)
       by false e = record {
-        behind = more ++ k.behind;
-        is = subst (IsInput held path s.hex) (append_assoc bytes more k.behind) (subst (λ (hex : Bool). IsInput held path hex ((bytes ++ more) ++ k.behind)) same k.is);
+        following = more ++ k.following;
+        is = subst (IsInput held path s.hex) (append_assoc bytes more k.following) (subst (λ (hex : Bool). IsInput held path hex ((bytes ++ more) ++ k.following)) same k.is);
         end = λ ends. absurd (false≢true (sym e ∙ ends));
       }
 
 -- ---- its prefix
 
 -- digits, and one that may wait
-ends_behind : (digits pairs : List ℕ) (high : Option ℕ) → EndsIn digits pairs high → (more : List ℕ) × (digits ≡ pairs ++ more)
-ends_behind digits pairs None e = ([], e ∙ sym (append-nil pairs))
-ends_behind digits pairs (Some value) (digit, e, is) = (digit ∷ [], e)
+ends_after : (digits pairs : List ℕ) (high : Option ℕ) → EndsIn digits pairs high → (more : List ℕ) × (digits ≡ pairs ++ more)
+ends_after digits pairs None e = ([], e ∙ sym (append-nil pairs))
+ends_after digits pairs (Some value) (digit, e, is) = (digit ∷ [], e)
 
 module _ (held : Option Files) (path prefix back bytes : List ℕ) (d : DigitsView) (h : Holds held path (prefix ++ back)) where
   prefix_of : (hex : Bool) → Gives hex d prefix bytes → IsPrefix held path hex bytes
   prefix_of false g = (prefix ++ back, length prefix, h, g ∙ sym (take-append_seam prefix back))
   prefix_of true g =
-      let e = ends_behind (filter is_kept prefix) g.pairs d.high g.ends in
+      let e = ends_after (filter is_kept prefix) g.pairs d.high g.ends in
       let first : take (length g.pairs) (filter is_kept (prefix ++ back)) ≡ g.pairs =
       ap (take (length g.pairs)) (filter-append is_kept prefix back ∙ ap (λ (xs : List ℕ). xs ++ filter is_kept back) e.1 ∙ append_assoc g.pairs e.0 (filter is_kept back))
       ∙ take-append_seam g.pairs (e.0 ++ filter is_kept back) in
@@ -167,9 +167,9 @@ hex_error_text held now path s bytes keeps g h = by held keeps g.file
     by None keeps f = (g.prefix ++ drop s.size h.whole, tt, h.hex_error g.prefix bytes spells)
     by (Some files) keeps f =
         let whole : h.whole ≡ g.prefix ++ f.back = same_file files now path (g.prefix ++ f.back) h.whole keeps f.holds h.holds in
-        let behind : drop s.size h.whole ≡ f.back =
+        let following : drop s.size h.whole ≡ f.back =
         ap (λ (n : ℕ). drop n h.whole) g.size_is ∙ ap (drop (length g.prefix)) whole ∙ drop-append_seam g.prefix f.back in
-        (g.prefix ++ f.back, f.holds, subst (λ (xs : List ℕ). IsErr (decode_of (filter is_kept (g.prefix ++ xs)))) behind (h.hex_error g.prefix bytes spells))
+        (g.prefix ++ f.back, f.holds, subst (λ (xs : List ℕ). IsErr (decode_of (filter is_kept (g.prefix ++ xs)))) following (h.hex_error g.prefix bytes spells))
 
 pub no_part : (held now : Option Files) (path : List ℕ) (s : Source) (bytes : List ℕ) → KeepsFiles held now → HasGiven held path s bytes
     → (fault : Fault) → IsNoPart now path s fault → IsNoInput held path s.hex fault

@@ -10,7 +10,7 @@ use Rattle.cborc_files.specs.declared.folder.FileFault.{FileFault}
 use Rattle.cborc_words.specs.declared.request.{TextStyle.TextStyle, EventStyle.EventStyle, Options.Options, Output.Output}
 use Rattle.cborc_commands.specs.Sequences.{texts_from, IsCutIn, IsCutShort, IsTakenSoFar, of_items, of_cut}
 use Rattle.cborc_commands.specs.declared.fault.Fault.TheVariants as faults
-use Rattle.cborc_commands.specs.inner.Items.{AreStopped, AreWrittenOf, AreStoppedOf, no_input, behind_no_input, within}
+use Rattle.cborc_commands.specs.inner.Items.{AreStopped, AreWrittenOf, AreStoppedOf, no_input, after_no_input, within}
 use Rattle.cborc_commands.specs.CanonSequence.{HasCanonicalBytes, canonical_text, canonical_texts, IsSequenceCanonised, IsSent, HasFirstTexts, IsSequenceNotCanonised}
 use Rattle.cborc_commands.specs.EventsSequence.{item_lines, all_lines, IsListedInPart, listed_to, listed_short, IsListedSoFar, items_listed, prefix_listed, IsSequenceNotListed}
 use Rattle.cborc_commands.specs.ShowSequence.{item_text, IsSequenceShown, IsSequenceNotShown}
@@ -106,7 +106,7 @@ module _ (o : KeyOrder) (options : Options) (source : List ℕ) (output : Output
 
       cut_of : AreStoppedOf Has (λ start. text_of) Unwritten options source held from to fault → fault ≡ faults.CannotPrint → IsCutShort Has text_of options source held from to
       cut_of (no_input why w) e = absurd (subst (IsNoInput held source options.hex) e why)
-      cut_of (behind_no_input why prefix is cause h) e = absurd (subst (IsNoInput held source options.hex) e why)
+      cut_of (after_no_input why prefix is cause h) e = absurd (subst (IsNoInput held source options.hex) e why)
       cut_of (within input is h) e = (input, is, cut_there input h h.cause h.stopped (sym h.fault_is ∙ e))
 
       pub first_written : AreStoppedOf Has (λ start. text_of) Unwritten options source held from to fault → fault ≡ faults.CannotPrint → HasFirstTexts o options source held
@@ -148,7 +148,7 @@ module _ (o : KeyOrder) (options : Options) (source : List ℕ) (output : Output
 
         by_stop : AreStoppedOf Has (λ start. text_of) Unwritten options source held from to fault → IsSequenceNotCanonised o options source output held before after fault
         by_stop (no_input why w) = none_more fault why (of_items w.items w.first (took Has text_of from to to w.items w.written))
-        by_stop (behind_no_input why prefix is cause h) =
+        by_stop (after_no_input why prefix is cause h) =
             none_more fault why (so_far Has text_of from to Unwritten options.limits.bytes prefix cause h options source held is (left h.rest h.middle to h.cause h.stopped))
         by_stop (within input is h) =
             subst (IsSequenceNotCanonised o options source output held before after) (sym h.fault_is) (by_cause input is h h.cause refl h.stopped)
@@ -227,7 +227,7 @@ module _ (text_style : TextStyle) (options : Options) (source : List ℕ) (held 
     pub sequence_not_shown : AreStoppedOf Valid (λ start. item_text text_style) Unshown options source held before after fault
         → IsSequenceNotShown text_style options source held before after fault
     sequence_not_shown (no_input why w) = none_shown fault why (of_items w.items w.first (took Valid (item_text text_style) before after after w.items w.written))
-    sequence_not_shown (behind_no_input why prefix is cause h) =
+    sequence_not_shown (after_no_input why prefix is cause h) =
         none_shown fault why
         (so_far Valid (item_text text_style) before after Unshown options.limits.bytes prefix cause h options source held is (unshown_left h.rest h.middle h.cause h.stopped))
     sequence_not_shown (within input is h) = subst (IsSequenceNotShown text_style options source held before after) (sym h.fault_is) (not_shown_by input is h h.cause h.stopped)
@@ -291,7 +291,7 @@ module _ (style : EventStyle) (options : Options) (source : List ℕ) (held : Op
   pub sequence_not_listed : AreStoppedOf (IsAccepted options.limits form) (item_lines style) (IsItemNotListed style options.limits) options source held before after fault
       → IsSequenceNotListed style options source held before after fault
   sequence_not_listed (no_input why w) = none_listed fault why (items_listed w.items w.first w.written)
-  sequence_not_listed (behind_no_input why prefix is cause h) = none_listed fault why (lines_so_far prefix is cause h)
+  sequence_not_listed (after_no_input why prefix is cause h) = none_listed fault why (lines_so_far prefix is cause h)
   sequence_not_listed (within input is h) = subst (IsSequenceNotListed style options source held before after) (sym h.fault_is) (not_listed_by input is h h.cause refl)
 
 -- ---- `check --seq`: what is written of the items, which is nothing, goes elsewhere than to standard output
@@ -318,5 +318,5 @@ module _ (rules : Rules) (options : Options) (source : List ℕ) (held : Option 
   pub sequence_not_checked : AreStoppedOf (IsAccepted options.limits rules) (λ start item. []) Uncounted options source held from to fault
       → IsSequenceNotChecked rules options source held before after fault
   sequence_not_checked (no_input h w) = none_checked fault h
-  sequence_not_checked (behind_no_input h prefix is cause w) = none_checked fault h
+  sequence_not_checked (after_no_input h prefix is cause w) = none_checked fault h
   sequence_not_checked (within input is h) = subst (IsSequenceNotChecked rules options source held before after) (sym h.fault_is) (not_checked_by input is h h.cause refl)

@@ -30,29 +30,29 @@ module _ (limits : Bounds) (rules : Rules) (bytes : List ℕ) (size : ℕ) (h : 
   }
 
   -- and more follows
-  stands_before : (behind : List ℕ) → spell h.item ++ (drop (length (spell h.item)) bytes ++ behind) ≡ bytes ++ behind
-  stands_before behind =
-      sym (append_assoc (spell h.item) (drop (length (spell h.item)) bytes) behind)
-      ∙ ap (λ (x : List ℕ). x ++ behind) (splits limits rules bytes h.item h.verdict)
+  before_following : (following : List ℕ) → spell h.item ++ (drop (length (spell h.item)) bytes ++ following) ≡ bytes ++ following
+  before_following following =
+      sym (append_assoc (spell h.item) (drop (length (spell h.item)) bytes) following)
+      ∙ ap (λ (x : List ℕ). x ++ following) (splits limits rules bytes h.item h.verdict)
 
   -- only a part of its text was accepted
-  cut_of : (takes : Spelling → Type 0) (text : Spelling → List ℕ) (before after : Option (List ℕ)) (behind : List ℕ) → takes h.item
-      → GoesInPart before after (text h.item) → IsCutText takes text (bytes ++ behind) before after
-  cut_of takes text before after behind t w = record {
+  cut_of : (takes : Spelling → Type 0) (text : Spelling → List ℕ) (before after : Option (List ℕ)) (following : List ℕ) → takes h.item
+      → GoesInPart before after (text h.item) → IsCutText takes text (bytes ++ following) before after
+  cut_of takes text before after following t w = record {
     item = h.item;
-    rest = drop (length (spell h.item)) bytes ++ behind;
+    rest = drop (length (spell h.item)) bytes ++ following;
     has = t;
-    bytes_are = stands_before behind;
+    bytes_are = before_following following;
     taken = w;
   }
 
 -- only a part of its diagnostic text was accepted
-pub text_not_taken : (limits : Bounds) (bytes : List ℕ) (size : ℕ) (h : IsRead limits plain bytes size) (text_style : TextStyle) (before after : Option (List ℕ)) (behind : List ℕ) (fault : Fault)
-    → IsNotTaken (item_text text_style h.item) before after fault → IsItemNotShown limits text_style (bytes ++ behind) fault before after
-text_not_taken limits bytes size h text_style before after behind faults.CannotPrint cut =
-    cut_of limits plain bytes size h (IsAccepted limits plain) (item_text text_style) before after behind (item_accepted limits plain bytes size h) cut
-text_not_taken limits bytes size h text_style before after behind faults.Memory same = same
-text_not_taken limits bytes size h text_style before after behind _ none = absurd none
+pub text_not_taken : (limits : Bounds) (bytes : List ℕ) (size : ℕ) (h : IsRead limits plain bytes size) (text_style : TextStyle) (before after : Option (List ℕ)) (following : List ℕ) (fault : Fault)
+    → IsNotTaken (item_text text_style h.item) before after fault → IsItemNotShown limits text_style (bytes ++ following) fault before after
+text_not_taken limits bytes size h text_style before after following faults.CannotPrint cut =
+    cut_of limits plain bytes size h (IsAccepted limits plain) (item_text text_style) before after following (item_accepted limits plain bytes size h) cut
+text_not_taken limits bytes size h text_style before after following faults.Memory same = same
+text_not_taken limits bytes size h text_style before after following _ none = absurd none
 
 -- ---- its canonical bytes
 
@@ -68,15 +68,15 @@ module _ (b : Bounds) (o : KeyOrder) (bytes canonical : List ℕ) (size : ℕ) (
     canonical_of before after w = written_of b plain bytes size h.read (HasCanonicalBytes b o) (canonical_text o form) before after has_bytes (subst (Appends before after) text_is w)
 
     -- a part of its text was accepted
-    pub cut_text : (before after : Option (List ℕ)) (behind : List ℕ) → GoesInPart before after text
-        → IsCutText (HasCanonicalBytes b o) (canonical_text o form) (bytes ++ behind) before after
-    cut_text before after behind w =
-        cut_of b plain bytes size h.read (HasCanonicalBytes b o) (canonical_text o form) before after behind has_bytes (subst (GoesInPart before after) text_is w)
+    pub cut_text : (before after : Option (List ℕ)) (following : List ℕ) → GoesInPart before after text
+        → IsCutText (HasCanonicalBytes b o) (canonical_text o form) (bytes ++ following) before after
+    cut_text before after following w =
+        cut_of b plain bytes size h.read (HasCanonicalBytes b o) (canonical_text o form) before after following has_bytes (subst (GoesInPart before after) text_is w)
 
-  pub grown_too_long : b.bytes < length canonical → (form : Form) (out : Option (List ℕ)) (behind : List ℕ) (f : Refusal) → f ≡ refusal reasons.CanonicalTooLong size size
-      → IsUnwritten b o form (bytes ++ behind) (faults.Refused f) out out
-  grown_too_long l form out behind f is = (
-    too_long h.read.item (drop (length (spell h.read.item)) bytes ++ behind) (item_accepted b plain bytes size h.read) (stands_before b plain bytes size h.read behind) (rw (← h.canonical_is) l)
+  pub grown_too_long : b.bytes < length canonical → (form : Form) (out : Option (List ℕ)) (following : List ℕ) (f : Refusal) → f ≡ refusal reasons.CanonicalTooLong size size
+      → IsUnwritten b o form (bytes ++ following) (faults.Refused f) out out
+  grown_too_long l form out following f is = (
+    too_long h.read.item (drop (length (spell h.read.item)) bytes ++ following) (item_accepted b plain bytes size h.read) (before_following b plain bytes size h.read following) (rw (← h.canonical_is) l)
         (is ∙ ap (λ (k : ℕ). refusal reasons.CanonicalTooLong k k) h.read.size),
     refl,
   )

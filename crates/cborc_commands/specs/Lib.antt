@@ -1,4 +1,3 @@
-pub mod Answer
 pub mod Canon
 pub mod CanonSequence
 pub mod Check
@@ -11,6 +10,7 @@ pub mod Fault
 pub mod Input
 pub mod NoInput
 pub mod Outcome
+pub mod Performed
 pub mod Put
 pub mod Rules
 pub mod Sequences

@@ -6,7 +6,7 @@ use Rattle.cborc_words.specs.declared.request.Action.TheVariants.{Canon, Show, E
 use Rattle.cborc_words.specs.declared.request.{Action.Action, Verbosity.Verbosity, Verbosity.TheVariants.Quiet, Request.Request}
 use Rattle.cborc_commands.specs.declared.fault.Fault.TheVariants as faults
 use Rattle.cborc_commands.specs.{Fault.fault_status, Fault.status_number, declared.fault.Fault.Fault, declared.status.Status.Status}
-use Rattle.cborc_commands.specs.Answer.{IsDone, IsNotDone}
+use Rattle.cborc_commands.specs.Performed.{IsDone, IsNotDone}
 
 -- after which faults standard output is unchanged: all but its own. `events`, also with `--seq`, and `show --seq` write lines before a refusal or a fault of
 -- hex text, as does `canon --seq` to standard output.
@@ -26,23 +26,23 @@ abbrev pub IsStatus : Status → ℕ → Type 0
 IsStatus s status = (status ≡ status_number s) ⊎ (status ≡ 3)
 
 -- what a request leaves: standard output has what is reported, also after the flush
-pub data IsAnswered (request : Request) (old new : Option Files) (before after : Option (List ℕ)) (status : ℕ) : Type 0 where
+pub data IsFinished (request : Request) (old new : Option Files) (before after : Option (List ℕ)) (status : ℕ) : Type 0 where
   -- it succeeds, with its status
   done : (s : Status) (taken : Option (List ℕ)) → IsDone request old new before taken s → Keeps taken after → IsStatus s status
-      → IsAnswered request old new before after status
+      → IsFinished request old new before after status
   -- it fails with this fault, which has the status; no file is changed
   stopped : (fault : Fault) (taken : Option (List ℕ)) → IsNotDone request old before taken fault → KeepsFiles old new → IsSilent request fault before taken
-      → Keeps taken after → IsStatus (fault_status fault) status → IsAnswered request old new before after status
+      → Keeps taken after → IsStatus (fault_status fault) status → IsFinished request old new before after status
 
 -- the same without reports: standard output gets only canonical bytes
-abbrev pub IsAnsweredQuietlyBy : Action → Request → Option Files → Option Files → Option (List ℕ) → Option (List ℕ) → ℕ → Type 0
-IsAnsweredQuietlyBy (Canon output order) request old new before after status = IsAnswered request old new before after status
-IsAnsweredQuietlyBy _ request old new before after status = IsAnswered request old new None None status × Keeps before after
+abbrev pub IsFinishedQuietlyBy : Action → Request → Option Files → Option Files → Option (List ℕ) → Option (List ℕ) → ℕ → Type 0
+IsFinishedQuietlyBy (Canon output order) request old new before after status = IsFinished request old new before after status
+IsFinishedQuietlyBy _ request old new before after status = IsFinished request old new None None status × Keeps before after
 
-abbrev pub IsAnsweredQuietly : Request → Option Files → Option Files → Option (List ℕ) → Option (List ℕ) → ℕ → Type 0
-IsAnsweredQuietly request old new before after status = IsAnsweredQuietlyBy request.action request old new before after status
+abbrev pub IsFinishedQuietly : Request → Option Files → Option Files → Option (List ℕ) → Option (List ℕ) → ℕ → Type 0
+IsFinishedQuietly request old new before after status = IsFinishedQuietlyBy request.action request old new before after status
 
 -- what a request leaves in this verbosity; an explanation goes to standard error
 abbrev pub IsReportedBy : Verbosity → Request → Option Files → Option Files → Option (List ℕ) → Option (List ℕ) → ℕ → Type 0
-IsReportedBy Quiet request old new before after status = IsAnsweredQuietly request old new before after status
-IsReportedBy _ request old new before after status = IsAnswered request old new before after status
+IsReportedBy Quiet request old new before after status = IsFinishedQuietly request old new before after status
+IsReportedBy _ request old new before after status = IsFinished request old new before after status

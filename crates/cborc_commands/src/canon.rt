@@ -31,7 +31,7 @@ pub fn canon<'a, F: Folder, O: Write>(
         (F.held files.old) (IsPut output.entry.path.now (F.held files.old) (F.held files.new)
         (O.contents out.old) (O.contents out.new))) }
     ensures untouched { OnErr result (KeepsFiles (F.held files.old) (F.held files.new)) }
-    ensures same { F.behind files.new ≡ F.behind files.old }
+    ensures same { F.forwards_to files.new ≡ F.forwards_to files.old }
     ensures fault { IfErr result
         (IsNotCanonised order options source.now output.entry (F.held files.old)
         (O.contents out.old) (O.contents out.new)) }
@@ -54,7 +54,7 @@ fn put<'a, F: Folder, O: Write>(
     ensures put { OnOk result (IsPut path.now (F.held files.old) (F.held files.new)
         (O.contents out.old) (O.contents out.new) text.now) }
     ensures untouched { OnErr result (KeepsFiles (F.held files.old) (F.held files.new)) }
-    ensures same { F.behind files.new ≡ F.behind files.old }
+    ensures same { F.forwards_to files.new ≡ F.forwards_to files.old }
     ensures fault { IfErr result (λ fault. IsNotPut path.now fault × (fault ≡ Fault.CannotPrint
         → GoesInPart (O.contents out.old) (O.contents out.new) text.now)) }
     ensures silent { IfErr result (λ fault. fault ≢ Fault.CannotPrint → out.new ≡ out.old) }

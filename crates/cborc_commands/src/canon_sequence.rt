@@ -34,7 +34,7 @@ pub fn canon_sequence<'a, F: Folder, O: Write>(
     ensures written { OnOk result (IsSequenceCanonised order options source.now output.entry
         (F.held files.old) (F.held files.new) (O.contents out.old) (O.contents out.new)) }
     ensures untouched { OnErr result (KeepsFiles (F.held files.old) (F.held files.new)) }
-    ensures same { F.behind files.new ≡ F.behind files.old }
+    ensures same { F.forwards_to files.new ≡ F.forwards_to files.old }
     ensures fault { IfErr result (IsSequenceNotCanonised order options source.now output.entry
         (F.held files.old) (O.contents out.old) (O.contents out.new)) }
     ensures silent { is_stream output.entry.path.now ≡ false → out.new ≡ out.old }
@@ -61,7 +61,7 @@ fn replace_file<'a, F: Folder>(
     ensures written { OnOk result ((out : Option (List ℕ)) → IsSequenceCanonised order options
         source.now output.entry (F.held files.old) (F.held files.new) out out) }
     ensures untouched { OnErr result (KeepsFiles (F.held files.old) (F.held files.new)) }
-    ensures same { F.behind files.new ≡ F.behind files.old }
+    ensures same { F.forwards_to files.new ≡ F.forwards_to files.old }
     ensures fault { IfErr result (λ fault. (out : Option (List ℕ)) → IsSequenceNotCanonised order
         options source.now output.entry (F.held files.old) out out fault) }
 {

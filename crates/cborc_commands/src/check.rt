@@ -50,7 +50,7 @@ pub fn check<'a, F: Folder, O: Write>(
         (O.contents out.old) (O.contents out.new)) }
     ensures silent { IfErr result (λ fault. fault ≢ Fault.CannotPrint → out.new ≡ out.old) }
     ensures keeps { KeepsFiles (F.held files.old) (F.held files.new) }
-    ensures same { F.behind files.new ≡ F.behind files.old }
+    ensures same { F.forwards_to files.new ≡ F.forwards_to files.old }
 {
     let size = match (accepted, retention) {
         (Accepted::Canonical(order), Retention::Nothing) => {
@@ -74,7 +74,7 @@ fn size_of_input<'a, F: Folder>(
     ensures fault { IfErr result
         (IsNoWholeInput (rules_of accepted) options source.now (F.held files.old)) }
     ensures keeps { KeepsFiles (F.held files.old) (F.held files.new) }
-    ensures same { F.behind files.new ≡ F.behind files.old }
+    ensures same { F.forwards_to files.new ≡ F.forwards_to files.old }
 {
     let limits = options.limits;
     let bytes = read_item(alloc, files, source, Judge::Item(accepted), options)?;

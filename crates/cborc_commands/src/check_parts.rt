@@ -31,7 +31,7 @@ pub fn strict_size<'a, F: Folder>(
     ensures fault { IfErr result
         (IsNoWholeInput (strict order) options path.now (F.held files.old)) }
     ensures keeps { KeepsFiles (F.held files.old) (F.held files.new) }
-    ensures same { F.behind files.new ≡ F.behind files.old }
+    ensures same { F.forwards_to files.new ≡ F.forwards_to files.old }
 {
     let limits = options.limits;
     let least = first(options.hex, limits);
@@ -61,7 +61,7 @@ fn size_in_parts<'a, F: Folder>(
     ensures fault { IfErr result
         (IsNoWholeFrom (strict order) options path.now (F.held files.old) parts) }
     ensures keeps { KeepsFiles (F.held files.old) (F.held files.new) }
-    ensures same { F.behind files.new ≡ F.behind files.old }
+    ensures same { F.forwards_to files.new ≡ F.forwards_to files.old }
 {
     let mut parts = parts;
     let mut machine = StrictMachine::new(alloc, options.limits, order);

@@ -36,7 +36,7 @@ pub fn check_sequence<'a, F: Folder, O: Write>(
         (O.contents out.old) (O.contents out.new)) }
     ensures silent { IfErr result (λ fault. fault ≢ Fault.CannotPrint → out.new ≡ out.old) }
     ensures keeps { KeepsFiles (F.held files.old) (F.held files.new) }
-    ensures same { F.behind files.new ≡ F.behind files.old }
+    ensures same { F.forwards_to files.new ≡ F.forwards_to files.old }
 {
     let counted = CountedItems { accepted };
     let count = write_items(alloc, &counted, files, source, options, &mut io::sink())?;

@@ -29,7 +29,7 @@ pub fn events<'a, F: Folder, O: Write>(
     ensures fault { IfErr result (IsNotListedOf event_style options source.now
         (F.held files.old) (O.contents out.old) (O.contents out.new)) }
     ensures keeps { KeepsFiles (F.held files.old) (F.held files.new) }
-    ensures same { F.behind files.new ≡ F.behind files.old }
+    ensures same { F.forwards_to files.new ≡ F.forwards_to files.old }
 {
     let limits = options.limits;
     let bytes = read_item(alloc, files, source, Judge::Form, options)?;

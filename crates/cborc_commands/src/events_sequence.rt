@@ -36,7 +36,7 @@ pub fn events_sequence<'a, F: Folder, O: Write>(
     ensures fault { IfErr result (IsSequenceNotListed event_style options source.now
         (F.held files.old) (O.contents out.old) (O.contents out.new)) }
     ensures keeps { KeepsFiles (F.held files.old) (F.held files.new) }
-    ensures same { F.behind files.new ≡ F.behind files.old }
+    ensures same { F.forwards_to files.new ≡ F.forwards_to files.old }
 {
     write_items(
         alloc,

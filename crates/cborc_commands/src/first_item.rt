@@ -89,8 +89,8 @@ impl Scratch {
         limits: Limits,
         order: KeyOrder,
     ) -> Result<(&'b [u8], u64), Refusal>
-        ensures accepted { IfOk result (λ answer.
-            IsBuiltPrefix limits order bytes.now answer.0.now answer.1) }
+        ensures accepted { IfOk result (λ outcome.
+            IsBuiltPrefix limits order bytes.now outcome.0.now outcome.1) }
         ensures refused { IfErr result (IsUnread limits plain bytes.now) }
     {
         self.canonical.canonicalise(bytes, limits, order)

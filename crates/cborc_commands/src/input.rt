@@ -41,7 +41,7 @@ pub fn read_item<'a, F: Folder>(
         path.now options v.items) }
     ensures fault { IfErr result (IsNoInput (F.held files.old) path.now options.hex) }
     ensures keeps { KeepsFiles (F.held files.old) (F.held files.new) }
-    ensures same { F.behind files.new ≡ F.behind files.old }
+    ensures same { F.forwards_to files.new ≡ F.forwards_to files.old }
 {
     let limits = options.limits;
     let least = first(options.hex, limits);

@@ -51,7 +51,7 @@ impl Parts {
         ensures begins { IfOk result (IsReadTo (F.held files.old) path.now hex []) }
         ensures fault { IfErr result (IsNoInput (F.held files.old) path.now hex) }
         ensures keeps { KeepsFiles (F.held files.old) (F.held files.new) }
-        ensures same { F.behind files.new ≡ F.behind files.old }
+        ensures same { F.forwards_to files.new ≡ F.forwards_to files.old }
     {
         let mut parts = Parts::unread(alloc, hex, least);
         parts.read_on(alloc, files, path)?;
@@ -129,7 +129,7 @@ impl Parts {
             → self.old.source.size + length self.old.rest ≤ self.new.source.size) }
         ensures fault { IfErr result (IsNoPart (F.held files.old) path.now self.old.source) }
         ensures keeps { KeepsFiles (F.held files.old) (F.held files.new) }
-        ensures same { F.behind files.new ≡ F.behind files.old }
+        ensures same { F.forwards_to files.new ≡ F.forwards_to files.old }
     {
         remove_prefix(&mut self.bytes, self.taken);
         self.taken = 0;
@@ -158,7 +158,7 @@ impl Parts {
         ensures input { IfOk result (λ _. HasInput (F.held files.old) path.now self.source) }
         ensures fault { IfErr result (HasNoInput (F.held files.old) path.now self.source) }
         ensures keeps { KeepsFiles (F.held files.old) (F.held files.new) }
-        ensures same { F.behind files.new ≡ F.behind files.old }
+        ensures same { F.forwards_to files.new ≡ F.forwards_to files.old }
     {
         let mut bytes = self.bytes;
         let mut source = self.source;

@@ -4,7 +4,6 @@
 //! says what it does by what the files hold. [`canon_in_memory`] is `canon` over [`FilesInMemory`](cborc_files::FilesInMemory).
 #![tactic(auto)]
 
-mod answer;
 mod canon;
 mod canon_sequence;
 mod check;
@@ -20,6 +19,7 @@ mod in_memory;
 mod input;
 mod input_parts;
 mod listing;
+mod requests;
 mod sequence;
 mod show;
 mod show_sequence;
@@ -27,7 +27,7 @@ mod source;
 mod status;
 mod texts;
 
-pub use answer::{end, end_in, flushed, perform};
 pub use fault::Fault;
 pub use in_memory::canon_in_memory;
+pub use requests::{end, end_in, flushed, perform};
 pub use status::Status;

@@ -51,8 +51,8 @@ pub trait ItemWriter {
             (IsPutBack goes_on (W.contents out.old) (W.contents out.new))
             (λ size. IsWritten (takes self.now limits) (text self.now start) bytes.now size
             (W.contents out.old) (W.contents out.new))) }
-        ensures stopped { IfErr result (λ fault. (behind : List ℕ) → (goes_on ≡ false → behind ≡ [])
-            → stops self.now limits start (bytes.now ++ behind) fault
+        ensures stopped { IfErr result (λ fault. (following : List ℕ) → (goes_on ≡ false → following ≡ [])
+            → stops self.now limits start (bytes.now ++ following) fault
             (W.contents out.old) (W.contents out.new)) };
 }
 
@@ -74,7 +74,7 @@ pub fn write_items<'a, V: ItemWriter, F: Folder, W: Write>(
         (V.text writer.now) (V.stops writer.now options.limits) options source.now
         (F.held files.old) (W.contents out.old) (W.contents out.new)) }
     ensures keeps { KeepsFiles (F.held files.old) (F.held files.new) }
-    ensures same { F.behind files.new ≡ F.behind files.old }
+    ensures same { F.forwards_to files.new ≡ F.forwards_to files.old }
 {
     let limits = options.limits;
     let mut parts = Parts::open(alloc, files, source, options.hex, PART)?;

@@ -29,7 +29,7 @@ pub fn show<'a, F: Folder, O: Write>(
         (F.held files.old) (O.contents out.old) (O.contents out.new)) }
     ensures silent { IfErr result (λ fault. fault ≢ Fault.CannotPrint → out.new ≡ out.old) }
     ensures keeps { KeepsFiles (F.held files.old) (F.held files.new) }
-    ensures same { F.behind files.new ≡ F.behind files.old }
+    ensures same { F.forwards_to files.new ≡ F.forwards_to files.old }
 {
     let limits = options.limits;
     let bytes = read_item(alloc, files, source, Judge::Item(Accepted::Valid), options)?;

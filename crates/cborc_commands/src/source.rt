@@ -58,7 +58,7 @@ impl Source {
         ensures size { (self.old.size ≤ self.new.size) × (self.new.size < 2 ^ 63) }
         ensures fault { IfErr result (IsNoPart (F.held files.old) path.now self.old) }
         ensures keeps { KeepsFiles (F.held files.old) (F.held files.new) }
-        ensures same { F.behind files.new ≡ F.behind files.old }
+        ensures same { F.forwards_to files.new ≡ F.forwards_to files.old }
     {
         if !self.hex {
             let count = self.read_part(alloc, files, path, most, bytes)?;
@@ -96,7 +96,7 @@ impl Source {
         ensures range { IfOk result (λ count. self.now.size + count < 2 ^ 63) }
         ensures fault { IfErr result (IsNoPart (F.held files.old) path.now self.now) }
         ensures keeps { KeepsFiles (F.held files.old) (F.held files.new) }
-        ensures same { F.behind files.new ≡ F.behind files.old }
+        ensures same { F.forwards_to files.new ≡ F.forwards_to files.old }
     {
         let held = bytes.len();
         match files.read_on(alloc, path, self.size, most, bytes) {
@@ -117,7 +117,7 @@ impl Source {
         ensures input { OnOk result (HasInput (F.held files.old) path.now self.old) }
         ensures fault { IfErr result (HasNoInput (F.held files.old) path.now self.old) }
         ensures keeps { KeepsFiles (F.held files.old) (F.held files.new) }
-        ensures same { F.behind files.new ≡ F.behind files.old }
+        ensures same { F.forwards_to files.new ≡ F.forwards_to files.old }
     {
         let mut bytes = Vec::new(alloc);
         'parts: while self.may_be_no_hex() {

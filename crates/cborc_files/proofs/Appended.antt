@@ -46,7 +46,7 @@ some_file path from most few old new a l = record {
   whole = replicate from 0 ++ a.added;
   holds = tt;
   added =
-      let behind : drop from (replicate from 0 ++ a.added) ≡ a.added =
+      let following : drop from (replicate from 0 ++ a.added) ≡ a.added =
       ap (λ (k : ℕ). drop k (replicate from 0 ++ a.added)) (sym (length-replicate from 0)) ∙ drop-append_seam (replicate from 0) a.added in
-      a.is ∙ ap (λ (xs : List ℕ). old ++ xs) (sym (ap (take most) behind ∙ take_all most a.added (omega (arith, a.few, l))));
+      a.is ∙ ap (λ (xs : List ℕ). old ++ xs) (sym (ap (take most) following ∙ take_all most a.added (omega (arith, a.few, l))));
 }

@@ -2,7 +2,7 @@
 use Rattle.std.proofs.Common.{ℕ, ◌+◌, ◌<◌, ◌≡◌, ◌∙◌, List, [], ◌∷◌, ◌++◌, length, take, slice_index, fold, refl, sym, ap, subst, arith}
 use Rattle.std.proofs.lemmas.List.{take_more, Sums.fold-append}
 use Rattle.cborc_files.specs.declared.hex_text.DigitsFault.TheVariants as faults
-use Rattle.cborc_files.specs.Place.{line_behind, column_behind, MovesOn, IsOfHexText, IsOtherAt, IsFirstOther}
+use Rattle.cborc_files.specs.Place.{line_after, column_after, MovesOn, IsOfHexText, IsOtherAt, IsFirstOther}
 use Rattle.cborc_files.specs.{declared.hex_text.DigitsFault.DigitsFault, declared.hex_text.HexError.HexError, Digits.DigitsView}
 
 pub stays : (d : DigitsView) → MovesOn [] d d
@@ -15,8 +15,8 @@ folds f from middle to text byte e last = last ∙ ap (λ (n : ℕ). fold f n (b
 module _ (text : List ℕ) (i : ℕ) (within : i < length text) (old middle : DigitsView) where
   pub moves_more : (new : DigitsView) → MovesOn (take i text) old middle → MovesOn (slice_index text i ∷ []) middle new → MovesOn (take (i + 1) text) old new
   moves_more new h k = subst (λ (x : List ℕ). MovesOn x old new) (sym (take_more text i 0 within)) (record {
-    line = folds line_behind old.line middle.line new.line (take i text) (slice_index text i) h.line k.line;
-    column = folds column_behind old.column middle.column new.column (take i text) (slice_index text i) h.column k.column;
+    line = folds line_after old.line middle.line new.line (take i text) (slice_index text i) h.line k.line;
+    column = folds column_after old.column middle.column new.column (take i text) (slice_index text i) h.column k.column;
   })
 
   -- the first byte of a text of one
@@ -33,7 +33,7 @@ module _ (text : List ℕ) (i : ℕ) (within : i < length text) (old middle : Di
     byte = o.byte;
   }
 
-  pub other_behind : (fault : DigitsFault) → MovesOn (take i text) old middle → ((k : ℕ) → k < i → IsOfHexText (slice_index text k)) → IsFirstOther (slice_index text i ∷ []) middle fault
+  pub other_after : (fault : DigitsFault) → MovesOn (take i text) old middle → ((k : ℕ) → k < i → IsOfHexText (slice_index text k)) → IsFirstOther (slice_index text i ∷ []) middle fault
       → IsFirstOther text old fault
-  other_behind (faults.NotHex e) h digits (at, o) = (i, other_at e h digits (subst (IsOtherAt (slice_index text i ∷ []) middle e) (first_place e at o) o))
-  other_behind _ h digits o = tt
+  other_after (faults.NotHex e) h digits (at, o) = (i, other_at e h digits (subst (IsOtherAt (slice_index text i ∷ []) middle e) (first_place e at o) o))
+  other_after _ h digits o = tt

@@ -13,9 +13,9 @@ ok_of : {A B : Type 0} → (r : Result A FromHexError) (f : A → Result B FromH
 ok_of (Ok x) f y h = (x, refl, h)
 ok_of (Err e) f y h = cc h
 
-err_behind : {A B : Type 0} → (r : Result A FromHexError) (f : A → Result B FromHexError) → ((x : A) → IsErr (f x)) → IsErr (r >>= f)
-err_behind (Ok x) f h = h x
-err_behind (Err e) f h = refl
+err_after : {A B : Type 0} → (r : Result A FromHexError) (f : A → Result B FromHexError) → ((x : A) → IsErr (f x)) → IsErr (r >>= f)
+err_after (Ok x) f h = h x
+err_after (Err e) f h = refl
 
 err_before : {A B : Type 0} → (r : Result A FromHexError) (f : A → Result B FromHexError) → IsErr r → IsErr (r >>= f)
 err_before (Ok x) f h = cc h
@@ -61,9 +61,9 @@ never i [] (m ∷ ms) c e =
     err_before (pair_value c m i) _ (rw bad refl)
 never i (x ∷ []) more c e =
     let bad : value_at c (i + 1) ≡ Err (InvalidHexCharacter c (i + 1)) = ap (digit_or_error c (i + 1)) e in
-    err_before (pair_value x c i) _ (err_behind (value_at x i) _ (λ a. rw bad refl))
+    err_before (pair_value x c i) _ (err_after (value_at x i) _ (λ a. rw bad refl))
 never i (x ∷ y ∷ xs) more c e =
-    err_behind (pair_value x y i) _ (λ byte. err_before (decode_pairs (i + 2) (xs ++ c ∷ more)) _ (never (i + 2) xs more c e))
+    err_after (pair_value x y i) _ (λ byte. err_before (decode_pairs (i + 2) (xs ++ c ∷ more)) _ (never (i + 2) xs more c e))
 
 either_err : (b : Bool) (r : Result (List ℕ) FromHexError) → IsErr r → IsErr (if b then Err OddLength else r)
 either_err true r h = refl
@@ -172,8 +172,8 @@ module _ (text : List ℕ) (i : ℕ) (within : i < length text) (old middle : Di
   })
 
   -- that byte is not a digit
-  pub hex_error_behind : IsHexErrorIn (slice_index text i ∷ []) middle → IsHexErrorIn text old
-  hex_error_behind k earlier spelled more s =
+  pub hex_error_after : IsHexErrorIn (slice_index text i ∷ []) middle → IsHexErrorIn text old
+  hex_error_after k earlier spelled more s =
       let there : (earlier ++ take i text) ++ slice_index text i ∷ (drop (i + 1) text ++ more) ≡ earlier ++ (text ++ more) =
       append_assoc earlier (take i text) (slice_index text i ∷ (drop (i + 1) text ++ more))
       ∙ ap (λ (x : List ℕ). earlier ++ x) (sym (append_assoc (take i text) (slice_index text i ∷ drop (i + 1) text) more)

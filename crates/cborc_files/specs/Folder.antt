@@ -61,4 +61,4 @@ IsBlank (Some files) bytes = bytes ≡ Some []
 
 -- a file is replaced whole, or no file is changed
 abbrev pub WritesFile : {E : Type 0} → Option Files → Option Files → Result (Unit {0}) E → List ℕ → List ℕ → Type 0
-WritesFile old new answer path bytes = MatchResult answer (λ done. ReplacesFile old new path bytes) (λ fault. KeepsFiles old new)
+WritesFile old new outcome path bytes = MatchResult outcome (λ done. ReplacesFile old new path bytes) (λ fault. KeepsFiles old new)

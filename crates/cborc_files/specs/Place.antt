@@ -9,12 +9,12 @@ abbrev pub next : ℕ → ℕ
 next n = min (n + 1) (2 ^ 64 - 1)
 
 -- the line after a byte on this line: a line feed ends it
-abbrev pub line_behind : ℕ → ℕ → ℕ
-line_behind line byte = if byte == 10 then next line else line
+abbrev pub line_after : ℕ → ℕ → ℕ
+line_after line byte = if byte == 10 then next line else line
 
 -- the column after a byte in this column
-abbrev pub column_behind : ℕ → ℕ → ℕ
-column_behind column byte = if byte == 10 then 1 else next column
+abbrev pub column_after : ℕ → ℕ → ℕ
+column_after column byte = if byte == 10 then 1 else next column
 
 -- the position is at the start of a text
 pub record IsAtStart (d : DigitsView) : Type 0 where
@@ -23,8 +23,8 @@ pub record IsAtStart (d : DigitsView) : Type 0 where
 
 -- the position moves past these bytes
 pub record MovesOn (text : List ℕ) (old new : DigitsView) : Type 0 where
-  pub line : new.line ≡ fold line_behind old.line text
-  pub column : new.column ≡ fold column_behind old.column text
+  pub line : new.line ≡ fold line_after old.line text
+  pub column : new.column ≡ fold column_after old.column text
 
 -- a byte of hex text: a digit, or white space
 abbrev pub IsOfHexText : ℕ → Type 0
@@ -35,8 +35,8 @@ pub record IsOtherAt (text : List ℕ) (old : DigitsView) (e : HexError) (at : �
   pub within : at < length text
   pub digits : (k : ℕ) → k < at → IsOfHexText (slice_index text k)
   pub other : IsOfHexText (slice_index text at) → ⊥
-  pub line : e.line ≡ fold line_behind old.line (take at text)
-  pub column : e.column ≡ fold column_behind old.column (take at text)
+  pub line : e.line ≡ fold line_after old.line (take at text)
+  pub column : e.column ≡ fold column_after old.column (take at text)
   pub byte : e.byte ≡ Some (slice_index text at)
 
 -- an error in the text reports that byte

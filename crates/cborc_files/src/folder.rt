@@ -52,7 +52,7 @@ pub trait Folder {
     ghost held: { Self → Option Files } = { λ _. None };
 
     // The reference to the folder that this one forwards to, if it does.
-    ghost behind: { Self → Option GName } = { λ _. None };
+    ghost forwards_to: { Self → Option GName } = { λ _. None };
 
     /// Begins a file that is to replace the one at this path. If it cannot be created, its first
     /// write or `replace` reports that. The only error here is out of memory.
@@ -60,7 +60,7 @@ pub trait Folder {
         ensures blank { IfOk result
             (λ draft. IsBlank (held self.old) (Self.Draft.contents draft)) }
         ensures keeps { KeepsFiles (held self.old) (held self.new) }
-        ensures same { behind self.new ≡ behind self.old };
+        ensures same { forwards_to self.new ≡ forwards_to self.old };
 
     /// Replaces the file at this path with the one that was begun for it, or leaves all files
     /// unchanged.
@@ -68,17 +68,17 @@ pub trait Folder {
         ensures replaces { OnOk result (IfSome (Self.Draft.contents draft)
             (ReplacesFile (held self.old) (held self.new) path.now)) }
         ensures untouched { OnErr result (KeepsFiles (held self.old) (held self.new)) }
-        ensures same { behind self.new ≡ behind self.old };
+        ensures same { forwards_to self.new ≡ forwards_to self.old };
 
     /// Removes the file that was begun, and returns why a write of it failed, if one did.
     fn abandon(&mut self, draft: Self::Draft) -> FileFault
         ensures keeps { KeepsFiles (held self.old) (held self.new) }
-        ensures same { behind self.new ≡ behind self.old };
+        ensures same { forwards_to self.new ≡ forwards_to self.old };
 
     /// Replaces the content of a file, or leaves all files unchanged.
     fn write(&mut self, path: &str, bytes: &[u8]) -> Result<(), FileFault>
         ensures writes { WritesFile (held self.old) (held self.new) result path.now bytes.now }
-        ensures same { behind self.new ≡ behind self.old }
+        ensures same { forwards_to self.new ≡ forwards_to self.old }
     {
         let mut draft = match self.begin(path) {
             Ok(draft) => draft,
@@ -110,19 +110,19 @@ pub trait Folder {
         ensures missing { IfErr result
             (λ fault. fault ≡ FileFault.Failed → IsMissing (held self.old) path.now) }
         ensures keeps { KeepsFiles (held self.old) (held self.new) }
-        ensures same { behind self.new ≡ behind self.old };
+        ensures same { forwards_to self.new ≡ forwards_to self.old };
 
     /// Receives the bytes that a result is about, which were read from the file that was opened
     /// last. A folder may store them for an explanation.
     fn remember(&mut self, _alloc: Global, _bytes: &[u8])
         ensures holds { held self.new ≡ held self.old }
-        ensures same { behind self.new ≡ behind self.old }
+        ensures same { forwards_to self.new ≡ forwards_to self.old }
     {}
 
     /// Receives why hex text cannot be decoded. A folder may store it for an explanation.
     fn remember_fault(&mut self, _fault: DigitsFault)
         ensures holds { held self.new ≡ held self.old }
-        ensures same { behind self.new ≡ behind self.old }
+        ensures same { forwards_to self.new ≡ forwards_to self.old }
     {}
 
     /// The cause of the last failure, if the folder stores it.
@@ -139,9 +139,9 @@ pub fn append_part(whole: &[u8], from: u64, most: u64, bytes: &mut Vec<u8>) -> R
     ensures fault { IfErr result (λ fault. fault ≡ FileFault.Memory) }
 {
     let from = from.min(whole.len() as u64) as usize;
-    let behind = &whole[from..];
-    let most = most.min(behind.len() as u64) as usize;
-    match bytes.extend_from_slice(&behind[..most]) {
+    let following = &whole[from..];
+    let most = most.min(following.len() as u64) as usize;
+    match bytes.extend_from_slice(&following[..most]) {
         Ok(()) => Ok(()),
         Err(_) => Err(FileFault::Memory),
     }

@@ -74,7 +74,7 @@ impl<'a, F: Folder> Folder for RecordingFolder<'a, F> {
 
     ghost held = { λ memory. F.held memory.files.now };
 
-    ghost behind = { λ memory. Some memory.files.ghost_name };
+    ghost forwards_to = { λ memory. Some memory.files.ghost_name };
 
     fn read_on(
         &mut self,

@@ -6,8 +6,8 @@ use Rattle.cborc_files.specs.Folder.{Files, KeepsFiles}
 use Rattle.cborc_words.specs.declared.request.Verbosity.TheVariants as verbosities
 use Rattle.cborc_words.specs.declared.request.{Accepted.Accepted, Action.TheVariants.Check, Options.Options, Request.Request, Verbosity.Verbosity}
 use Rattle.cborc_commands.specs.declared.status.Status.{Status, TheVariants.Accepted as accepted_status, TheVariants.Refused, TheVariants.Misused, TheVariants.Failed}
-use Rattle.cborc_commands.specs.Outcome.{IsAnswered, IsReportedBy, IsStatus, done, stopped}
-use Rattle.cborc_commands.specs.Answer.{IsActionDone}
+use Rattle.cborc_commands.specs.Outcome.{IsFinished, IsReportedBy, IsStatus, done, stopped}
+use Rattle.cborc_commands.specs.Performed.{IsActionDone}
 use Rattle.cborc_program.specs.SeveralFiles.{label, line_of, request_for, AreAllChecked, IsNamed}
 
 -- `check` changes no file
@@ -31,16 +31,16 @@ at_most Failed status (inl e) = omega (arith, e)
 at_most s status (inr e) = omega (arith, e)
 
 module _ (request : Request) (accepted : Accepted) (path : Bor (List ℕ)) (old new : Option Files) (before after : Option (List ℕ)) (status : ℕ) where
-  answered : IsAnswered (request_for request accepted path) old new before after status → KeepsFiles old new × (status ≤ 3)
-  answered (done s taken d keeps is) = (kept_done accepted request.sequence request.options path.now old new before taken s d, at_most s status is)
-  answered (stopped fault taken not kept silent keeps is) = (kept, at_most _ status is)
+  when_finished : IsFinished (request_for request accepted path) old new before after status → KeepsFiles old new × (status ≤ 3)
+  when_finished (done s taken d keeps is) = (kept_done accepted request.sequence request.options path.now old new before taken s d, at_most s status is)
+  when_finished (stopped fault taken not kept silent keeps is) = (kept, at_most _ status is)
 
 module _ (request : Request) (accepted : Accepted) (path : Bor (List ℕ)) (old new : Option Files) (before after : Option (List ℕ)) (status : ℕ) where
   -- what each report of `check` says of the files and the status
   pub reported : (verbosity : Verbosity) → IsReportedBy verbosity (request_for request accepted path) old new before after status → KeepsFiles old new × (status ≤ 3)
-  reported verbosities.Quiet h = answered request accepted path old new _ _ status h.0
-  reported verbosities.Plain h = answered request accepted path old new before after status h
-  reported verbosities.Explained h = answered request accepted path old new before after status h
+  reported verbosities.Quiet h = when_finished request accepted path old new _ _ status h.0
+  reported verbosities.Plain h = when_finished request accepted path old new before after status h
+  reported verbosities.Explained h = when_finished request accepted path old new before after status h
 
 first_worst : (worst own : ℕ) → worst ≡ 0 → max worst own ≡ max own 0
 first_worst worst own e = omega (arith, e)

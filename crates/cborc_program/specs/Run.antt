@@ -14,7 +14,7 @@ IsHelp kind = (kind ≡ kinds.DisplayHelp) ⊎ (kind ≡ kinds.DisplayVersion)
 -- what a run with these arguments leaves
 pub data IsRun (words : List Text) (old new : Option Files) (before after : Option (List ℕ)) (status : ℕ) : Type 0 where
   -- they request a task, and it is performed
-  answered : (task : Task) → AskFor words task → IsPerformed task old new before after status
+  task_run : (task : Task) → AskFor words task → IsPerformed task old new before after status
       → IsRun words old new before after status
   -- they request help, which standard output accepts or not
   helped : (kind : ErrorKind) → HasFault words kind → IsHelp kind → KeepsFiles old new → (status ≡ 0) ⊎ (status ≡ 3)

@@ -17,8 +17,8 @@ of_clap app grammar words e (inl memory) known = absurd (known memory)
 of_clap app grammar words e (inr among) known = found app grammar among
 
 -- the values request this task
-abbrev Answers : Task → Text × List Row → Type 0
-Answers task given = AsksFor given task.request × IsVerbosityOf given.1 task.verbosity
+abbrev RequestsTask : Task → Text × List Row → Type 0
+RequestsTask task given = AsksFor given task.request × IsVerbosityOf given.1 task.verbosity
 
 -- the values give these files
 abbrev Gives : Task → Text × List Row → Type 0
@@ -29,13 +29,13 @@ pub gives : (rows : Option (Text × List Row)) (task : Task) (files : List (Bor 
 gives None task files h is = tt
 gives (Some given) task files h is = ap (map (λ file. file.now)) is ∙ h
 
-asks : (rows : Option (Text × List Row)) (task : Task) → IsSomeAnd rows (Answers task) → IfSome rows (Gives task) → IfSome rows (λ given. HasOneVerbosity given.1)
+asks : (rows : Option (Text × List Row)) (task : Task) → IsSomeAnd rows (RequestsTask task) → IfSome rows (Gives task) → IfSome rows (λ given. HasOneVerbosity given.1)
     → reads_stream_twice task ≡ false → IsSomeAnd rows (λ given. AsksForTask given task)
 asks None task h files one once = absurd h
 asks (Some given) task h files one once = record { request = h.0; files = files; verbosity = h.1; once = once; one_verbosity = one }
 
 pub asked : (app : App) → IsGrammar app → is_simple app ≡ true → (words : List Text) (m : ArgMatches) (task : Task) → HasMatchesOf app words m → fault_of app words ≡ []
-    → IsSomeAnd (subcommand_rows_of m) (Answers task) → IfSome (subcommand_rows_of m) (Gives task) → IfSome (subcommand_rows_of m) (λ given. HasOneVerbosity given.1)
+    → IsSomeAnd (subcommand_rows_of m) (RequestsTask task) → IfSome (subcommand_rows_of m) (Gives task) → IfSome (subcommand_rows_of m) (λ given. HasOneVerbosity given.1)
     → reads_stream_twice task ≡ false → AskFor words task
 asked app grammar simple words m task has none h files one once = record {
   app = app;
@@ -49,13 +49,13 @@ pub of_two_verbosities : (app : App) → IsGrammar app → is_simple app ≡ tru
 of_two_verbosities app grammar simple words m kind has none both is =
     two_verbosities app grammar none (subst (λ (rows : Option (Text × List Row)). IsSomeAnd rows (λ given. HasTwoVerbosities given.1)) (rows_found app simple words m has) both) is
 
-reads : (rows : Option (Text × List Row)) (task : Task) → IsSomeAnd rows (Answers task) → IfSome rows (Gives task) → reads_stream_twice task ≡ true
+reads : (rows : Option (Text × List Row)) (task : Task) → IsSomeAnd rows (RequestsTask task) → IfSome rows (Gives task) → reads_stream_twice task ≡ true
     → IsSomeAnd rows ReadsTwice
 reads None task h files twice = absurd h
 reads (Some given) task h files twice = record { task = task; asks = h.0; files = files; twice = twice }
 
 pub of_two_streams : (app : App) → IsGrammar app → is_simple app ≡ true → (words : List Text) (m : ArgMatches) (task : Task) (kind : ErrorKind) → HasMatchesOf app words m
-    → fault_of app words ≡ [] → IsSomeAnd (subcommand_rows_of m) (Answers task) → IfSome (subcommand_rows_of m) (Gives task) → reads_stream_twice task ≡ true
+    → fault_of app words ≡ [] → IsSomeAnd (subcommand_rows_of m) (RequestsTask task) → IfSome (subcommand_rows_of m) (Gives task) → reads_stream_twice task ≡ true
     → kind ≡ ArgumentConflict → HasFault words kind
 of_two_streams app grammar simple words m task kind has none h files twice is =
     two_streams app grammar none (subst (λ (rows : Option (Text × List Row)). IsSomeAnd rows ReadsTwice) (rows_found app simple words m has) (reads (subcommand_rows_of m) task h files twice)) is

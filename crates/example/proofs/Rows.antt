@@ -23,13 +23,13 @@ count_within limits input v count read =
     (omega (arith, read.read.size, length_spell s), omega (arith, read.read.size, whole, length-append (spell s) prefix.0, length-take limits.bytes input))
 
 -- what follows the first `size` bytes, in the form of a slice's range
-pub behind : (size : ℕ) (rest : List ℕ) → take (length rest - size) (drop size rest) ≡ drop size rest
-behind size rest = ap (λ (n : ℕ). take n (drop size rest)) (sym (length-drop size rest)) ∙ take-length (drop size rest)
+pub following : (size : ℕ) (rest : List ℕ) → take (length rest - size) (drop size rest) ≡ drop size rest
+following size rest = ap (λ (n : ℕ). take n (drop size rest)) (sym (length-drop size rest)) ∙ take-length (drop size rest)
 
 pub one_more : (limits : Bounds) (first second input : List ℕ) (rows : List (ℤ × ℤ)) (rest : List ℕ) → AreRows limits first second input rows rest
     → (v : Value) (count : ℕ) (row : ℤ × ℤ) → IsReadAs limits plain rest v count → HasIntegers first second v row
     → AreRows limits first second input (rows ++ row ∷ []) (drop count rest)
 one_more limits first second input [] rest is v count row read has =
     (v, count, subst (λ (b : List ℕ). IsReadAs limits plain b v count) (sym is) read, has, ap (drop count) is)
-one_more limits first second input (r ∷ rs) rest (w, n, before, both, behind) v count row read has =
-    (w, n, before, both, one_more limits first second (drop n input) rs rest behind v count row read has)
+one_more limits first second input (r ∷ rs) rest (w, n, before, both, following) v count row read has =
+    (w, n, before, both, one_more limits first second (drop n input) rs rest following v count row read has)

@@ -10,7 +10,7 @@ use std::io::{self, Read, Write};
 
 /// The calls of `next` until one reports no event, and two more; the number of bytes requested by
 /// each read; and the number of bytes that the reader has left.
-pub(crate) fn answer_events<W: Write>(
+pub(crate) fn report_events<W: Write>(
     alloc: Global,
     parts: Parts<'_>,
     limits: Limits,
@@ -51,8 +51,8 @@ fn put_calls<R: Read, W: Write>(
 // Writes what a call returns and the reader's state after it. Returns whether an event was
 // reported.
 fn put_call<R: Read, W: Write>(events: &mut StrictReader<R>, out: &mut W) -> io::Result<bool> {
-    let answer = events.next();
-    put_answer(&answer, events.piece(), out)?;
+    let outcome = events.next();
+    put_result(&outcome, events.piece(), out)?;
     let taken = events.taken();
     let open = events.open();
     let spans = events.spans();
@@ -62,15 +62,15 @@ fn put_call<R: Read, W: Write>(events: &mut StrictReader<R>, out: &mut W) -> io:
         ",{taken},{open},{spans},{kept},{};",
         events.piece().len()
     )?;
-    Ok(matches!(answer, Ok(Some(_))))
+    Ok(matches!(outcome, Ok(Some(_))))
 }
 
-fn put_answer<W: Write>(
-    answer: &Result<Option<Event>, Refusal>,
+fn put_result<W: Write>(
+    outcome: &Result<Option<Event>, Refusal>,
     piece: &[u8],
     out: &mut W,
 ) -> io::Result<()> {
-    match answer {
+    match outcome {
         Ok(Some(event)) => put_event(event, piece, out),
         Ok(None) => write!(out, "none"),
         Err(refusal) => put_refusal(*refusal, out),

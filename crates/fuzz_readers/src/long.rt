@@ -50,7 +50,7 @@ impl Read for LongItem {
 /// For strings of `count` bytes and an array of `count` integers: what `read_strict` returns, how many
 /// bytes a `StrictReader` consumed, and how many it stores. Neither the items nor the events are
 /// stored here.
-pub(crate) fn answer_long<W: Write>(alloc: Global, count: u32, out: &mut W) -> io::Result<()> {
+pub(crate) fn report_long<W: Write>(alloc: Global, count: u32, out: &mut W) -> io::Result<()> {
     let Some(limits) = Limits::new(1, 1 << 33) else {
         return Err(io::Error::from(ErrorKind::InvalidInput));
     };

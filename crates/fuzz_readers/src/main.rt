@@ -24,9 +24,9 @@ mod memory;
 mod parts;
 mod writing;
 
-use crate::events::answer_events;
-use crate::long::answer_long;
-use crate::memory::answer_memory;
+use crate::events::report_events;
+use crate::long::report_long;
+use crate::memory::report_memory;
 use crate::parts::Parts;
 use crate::writing::{put_hex, put_refusal};
 use bumpalo::Bump;
@@ -43,13 +43,13 @@ static ORDERS: [KeyOrder; 2] = [KeyOrder::Bytewise, KeyOrder::LengthFirst];
 static PARTS: [usize; 3] = [1, 3, 4096];
 
 fn main(rt: HostRuntime) -> ExitCode {
-    match answer_all(rt.alloc(), rt.stdin(), rt.stdout()) {
+    match report_all(rt.alloc(), rt.stdin(), rt.stdout()) {
         Ok(()) => ExitCode::from(0),
         Err(_) => ExitCode::from(1),
     }
 }
 
-fn answer_all<R: Read + Drop, W: Write + Drop>(
+fn report_all<R: Read + Drop, W: Write + Drop>(
     alloc: Global,
     mut input: R,
     output: W,
@@ -58,7 +58,7 @@ fn answer_all<R: Read + Drop, W: Write + Drop>(
     input.read_to_string(&mut text)?;
     let mut out = BufWriter::new(alloc, output)?;
     for line in text.lines() {
-        answer_line(alloc, line, &mut out)?;
+        report_line(alloc, line, &mut out)?;
     }
     out.flush()
 }
@@ -67,31 +67,31 @@ fn malformed() -> io::Error {
     io::Error::from(ErrorKind::InvalidInput)
 }
 
-fn answer_line<W: Write>(alloc: Global, line: &str, out: &mut W) -> io::Result<()> {
+fn report_line<W: Write>(alloc: Global, line: &str, out: &mut W) -> io::Result<()> {
     if let Some(rest) = line.strip_prefix("memory ") {
         let (idle, rest) = rest.split_once(' ').ok_or_else(malformed)?;
         let idle = idle.parse::<u32>().map_err(|_| malformed())?;
         let (limits, bytes) = input_of(alloc, rest)?;
-        return answer_memory(alloc, &bytes, limits, idle, out);
+        return report_memory(alloc, &bytes, limits, idle, out);
     }
     if let Some(rest) = line.strip_prefix("arena ") {
         let (limits, bytes) = input_of(alloc, rest)?;
-        return answer_arena(alloc, &bytes, limits, out);
+        return report_arena(alloc, &bytes, limits, out);
     }
     if let Some(count) = line.strip_prefix("long ") {
-        return answer_long(alloc, count.parse::<u32>().map_err(|_| malformed())?, out);
+        return report_long(alloc, count.parse::<u32>().map_err(|_| malformed())?, out);
     }
     let (limits, bytes) = input_of(alloc, line)?;
     for part in PARTS {
-        answer_tree(alloc, &bytes, part, limits, out)?;
-        answer_strict(alloc, &bytes, part, limits, out)?;
+        report_tree(alloc, &bytes, part, limits, out)?;
+        report_strict(alloc, &bytes, part, limits, out)?;
         for order in ORDERS {
             let rest = &bytes[..];
-            answer_events(alloc, Parts { rest, part }, limits, order, out)?;
+            report_events(alloc, Parts { rest, part }, limits, order, out)?;
         }
     }
-    answer_view(alloc, &bytes, limits, out)?;
-    answer_sequence(alloc, &bytes, limits, out)?;
+    report_view(alloc, &bytes, limits, out)?;
+    report_sequence(alloc, &bytes, limits, out)?;
     writeln!(out)
 }
 
@@ -119,7 +119,7 @@ fn limits_of(line: &str) -> Option<(Limits, &str)> {
 }
 
 // The count and the canonical bytes in both orders.
-fn answer_tree<W: Write>(
+fn report_tree<W: Write>(
     alloc: Global,
     bytes: &[u8],
     part: usize,
@@ -148,7 +148,7 @@ fn put_canonical<W: Write>(alloc: Global, tree: &Tree, out: &mut W) -> io::Resul
 }
 
 // Writes what `read_view` returns. If its tree is refused, the refusal replaces the canonical bytes.
-fn answer_view<W: Write>(
+fn report_view<W: Write>(
     alloc: Global,
     bytes: &[u8],
     limits: Limits,
@@ -177,7 +177,7 @@ fn answer_view<W: Write>(
 
 // Writes the number of bytes of the view, or a refusal, and the number of bytes that the arena allocated
 // for it.
-fn answer_arena<W: Write>(
+fn report_arena<W: Write>(
     alloc: Global,
     bytes: &[u8],
     limits: Limits,
@@ -191,7 +191,7 @@ fn answer_arena<W: Write>(
     writeln!(out, " {}", arena.allocated_bytes())
 }
 
-fn answer_strict<W: Write>(
+fn report_strict<W: Write>(
     alloc: Global,
     bytes: &[u8],
     part: usize,
@@ -210,7 +210,7 @@ fn answer_strict<W: Write>(
 }
 
 // The canonical bytes of each item of the sequence.
-fn answer_sequence<W: Write>(
+fn report_sequence<W: Write>(
     alloc: Global,
     bytes: &[u8],
     limits: Limits,
@@ -223,14 +223,14 @@ fn answer_sequence<W: Write>(
     let mut sequence = Sequence::new(alloc, reader, limits);
     for _ in 0..=bytes.len() {
         match sequence.next() {
-            Some(item) => answer_item(alloc, item, out)?,
+            Some(item) => report_item(alloc, item, out)?,
             None => break,
         }
     }
     Ok(())
 }
 
-fn answer_item<W: Write>(
+fn report_item<W: Write>(
     alloc: Global,
     item: Result<Tree, Refusal>,
     out: &mut W,

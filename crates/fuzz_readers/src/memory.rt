@@ -15,7 +15,7 @@ use std::io::{self, ErrorKind, Write};
 /// and an array of the same item, and of an empty array and the bytes. Bytes that begin with no valid
 /// item have no tree: then each of the first three is `-`. In between, each call that allocates
 /// nothing is made `idle` times.
-pub(crate) fn answer_memory<W: Write>(
+pub(crate) fn report_memory<W: Write>(
     alloc: Global,
     bytes: &[u8],
     limits: Limits,

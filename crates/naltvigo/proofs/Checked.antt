@@ -7,7 +7,7 @@ use Rattle.theory_automaton.specs.Trace.{Mark}
 use Rattle.cbor_machine.specs.declared.step.Out.TheVariants as outs
 use Rattle.cbor_machine.specs.Machine.{IfRefused, IsComplete, KeepsLimits}
 use Rattle.cbor_machine.specs.declared.step.Out.{Out}
-use Rattle.cbor_stream.specs.{StrictMachine.StrictMachineView, StrictMachine.StandsAmid, Said.Says, Reasons.IsStrictReason}
+use Rattle.cbor_stream.specs.{StrictMachine.StrictMachineView, StrictMachine.AgreesAmid, Said.Says, Reasons.IsStrictReason}
 use Rattle.cbor_stream.proofs.{Steps.if_refused, Checking.limits_same}
 use Rattle.cbor_checker.specs.declared.checker.Checker.{Checker}
 use Rattle.naltvigo.specs.Checker.{HasChecked, IsReportedPart, IsReportedAtEnd, IsReportedRefusal}
@@ -18,7 +18,7 @@ map_some None P Q h p = tt
 map_some (Some f) P Q h p = h f p
 
 module _ (was now : StrictMachineView) (input : List ℕ) (used : ℕ) (out : Out) (within : used ≤ length input) (taken : now.machine.taken ≡ was.machine.taken + used)
-    (says : (t : List ℕ) (ms : List Mark) → StandsAmid was t ms → Says out now (t ++ take used input)) (limits : KeepsLimits was.machine now.machine) (order : now.order ≡ was.order) (keys : now.keys ≡ was.keys)
+    (says : (t : List ℕ) (ms : List Mark) → AgreesAmid was t ms → Says out now (t ++ take used input)) (limits : KeepsLimits was.machine now.machine) (order : now.order ≡ was.order) (keys : now.keys ≡ was.keys)
     (refused : IfRefused out (λ f. (now.refusal ≡ Some f) × (now.machine.taken ≡ f.read) × IsStrictReason was.order f.reason × (now.spans ≡ 0) × (now.kept ≡ 0)))
     (again : IfSome was.refusal (λ f. (out ≡ outs.Refused f) × (used ≡ 0) × (now ≡ was)))
     (complete : IsComplete was.machine → was.refusal ≡ None → (out ≡ outs.Done) × (used ≡ 0)) where

@@ -3,7 +3,7 @@ use Rattle.std.proofs.Common.{◌≡◌, ◌⊎◌, ◌++◌, ◌∷◌, ◌∙�
 use Rattle.cbor_head.specs.declared.event.Event.{Event}
 use Rattle.cbor_machine.specs.declared.step.Out.TheVariants as outs
 use Rattle.cbor_machine.specs.{Machine.KeepsLimits, MachineView.MachineView, declared.step.Out.Out}
-use Rattle.naltvigo.specs.Streaming.{AreReportedEvents, Gives, HasAnswered, IsReportedEnd, IsReportedEvent, ReportsOn, none, one_more}
+use Rattle.naltvigo.specs.Streaming.{AreReportedEvents, Gives, HasReturned, IsReportedEnd, IsReportedEvent, ReportsOn, none, one_more}
 use Rattle.naltvigo.specs.declared.{status.NaltvigoRefusal.NaltvigoRefusal, streaming.NaltvigoEvent.NaltvigoEvent}
 
 -- what holds between two steps
@@ -26,17 +26,17 @@ pub nothing_given : (m : MachineView) → HasGiven m m [] []
 nothing_given m = record { limits = inr refl; given = []; reported = tt; gives = none }
 
 pub one_given : (old mid new : MachineView) (bs last : List ℕ) (cs : List NaltvigoEvent) (e : Event) (c : NaltvigoEvent) → HasGiven old mid bs cs → KeepsLimits mid new
-    → HasAnswered (outs.Event e) mid new last → IsReportedEvent e c → HasGiven old new (bs ++ last) (cs ++ c ∷ [])
-one_given old mid new bs last cs e c so_far keeps answered is = record {
+    → HasReturned (outs.Event e) mid new last → IsReportedEvent e c → HasGiven old new (bs ++ last) (cs ++ c ∷ [])
+one_given old mid new bs last cs e c so_far keeps is_returned is = record {
   limits = inl (keeps_on old mid new so_far.limits keeps);
   given = so_far.given ++ e ∷ [];
   reported = reported_on so_far.given cs e c so_far.reported is;
-  gives = one_more mid new bs last so_far.given e so_far.gives answered;
+  gives = one_more mid new bs last so_far.given e so_far.gives is_returned;
 }
 
 pub no_further : (old mid new : MachineView) (bs last : List ℕ) (status : ℕ) (cs : List NaltvigoEvent) (r : NaltvigoRefusal) (out : Out) → HasGiven old mid bs cs
-    → KeepsLimits mid new → IsReportedEnd out new status r → HasAnswered out mid new last → ReportsOn old new (bs ++ last) status cs r
-no_further old mid new bs last status cs r out so_far keeps is answered = record {
+    → KeepsLimits mid new → IsReportedEnd out new status r → HasReturned out mid new last → ReportsOn old new (bs ++ last) status cs r
+no_further old mid new bs last status cs r out so_far keeps is is_returned = record {
   limits = inl (keeps_on old mid new so_far.limits keeps);
   given = so_far.given;
   reported = so_far.reported;
@@ -45,5 +45,5 @@ no_further old mid new bs last status cs r out so_far keeps is answered = record
   last = last;
   splits = refl;
   gives = so_far.gives;
-  ends = inr (out, is, answered);
+  ends = inr (out, is, is_returned);
 }

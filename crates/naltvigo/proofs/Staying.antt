@@ -14,8 +14,8 @@ abbrev pub HasBegun : MachineView → MachineView → ℕ → ℕ → Type 0
 HasBegun old now used reported = ((used ≡ 0) × (reported ≡ 0) × (now ≡ old)) ⊎ IsLive old
 
 -- a machine that says so is complete, and stays it
-pub done-behind : (s : Step) (old new : MachineView) → Stays s old new → s.out ≡ outs.Done → IsComplete new
-done-behind s old new stays is =
+pub done-following : (s : Step) (old new : MachineView) → Stays s old new → s.out ≡ outs.Done → IsComplete new
+done-following s old new stays is =
     let before : IsComplete old = stays.done.0 (subst IsDone (sym is) tt) in
     subst IsComplete (sym (stays.complete before).1) before
 
@@ -68,6 +68,6 @@ refused-then old now new used reported s P (inl h) stays to =
 none-reported : {reported : ℕ} → reported ≡ 0 → 0 < reported → ⊥
 none-reported e l = omega (arith, e, l)
 
-pub live-behind : (old now : MachineView) (used reported : ℕ) → HasBegun old now used reported → 0 < reported → IsLive old
-live-behind old now used reported (inr live) l = live
-live-behind old now used reported (inl h) l = elim (none-reported h.1 l) [ ]
+pub live-following : (old now : MachineView) (used reported : ℕ) → HasBegun old now used reported → 0 < reported → IsLive old
+live-following old now used reported (inr live) l = live
+live-following old now used reported (inl h) l = elim (none-reported h.1 l) [ ]

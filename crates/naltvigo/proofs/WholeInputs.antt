@@ -7,7 +7,7 @@ use Rattle.theory_verdicts.specs.Readers.{HasNoCanonicalPrefix, IsCanonicalPrefi
 use Rattle.theory_verdicts.proofs.Reasons.{never-read, never-memory}
 use Rattle.cbor_reader.specs.WholeItem.{IsWholeItem, unread, trailing}
 use Rattle.cbor_reader.specs.{Canonicalise.IsCanonicalOf, Headline.IsValidItem}
-use Rattle.naltvigo.specs.{Checking.HasNoWholePrefix, inner.Checking.IsOwnAnswer, inner.Checking.IsNotOwn}
+use Rattle.naltvigo.specs.{Checking.HasNoWholePrefix, inner.Checking.IsOwnResult, inner.Checking.IsNotOwn}
 
 -- ---- by the plain rules
 
@@ -20,7 +20,7 @@ module _ (limits : Bounds) (input : List ℕ) where
 
 module _ (limits : Bounds) (o : KeyOrder) (input : List ℕ) where
   module _ (own : IsCanonicalOf limits o input input ↔ ((s : Spelling) × IsVerdict limits (strict o) input (accepted s) × (spell s ≡ input))) where
-    pub owns : (count : ℕ) → IsRead limits (strict o) input count → IsCanonicalPrefix limits o input count → length input ≤ count → IsOwnAnswer limits o input
+    pub owns : (count : ℕ) → IsRead limits (strict o) input count → IsCanonicalPrefix limits o input count → length input ≤ count → IsOwnResult limits o input
     owns count r prefix least =
         let all-bytes : spell r.item ≡ input = item_is_whole limits (strict o) input r.item r.verdict (omega (arith, r.size, least)) in
         let all : count ≡ length input = r.size ∙ ap length all-bytes in

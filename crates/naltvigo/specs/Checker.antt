@@ -5,7 +5,7 @@ use Rattle.cbor_head.specs.declared.reason.Refusal.{Refusal}
 use Rattle.theory_automaton.specs.Trace.{Mark}
 use Rattle.cbor_machine.specs.declared.step.Out.TheVariants as outs
 use Rattle.cbor_machine.specs.{Machine.IfRefused, Machine.IsComplete, declared.step.Out.Out}
-use Rattle.cbor_stream.specs.StrictMachine.{StrictMachineView, StandsAmid, limits_of}
+use Rattle.cbor_stream.specs.StrictMachine.{StrictMachineView, AgreesAmid, limits_of}
 use Rattle.cbor_stream.specs.Said.{Says}
 use Rattle.naltvigo.specs.{Reported.IsReported, Settings.key_order, Settings.item_limits, declared.status.NaltvigoRefusal.NaltvigoRefusal}
 
@@ -29,7 +29,7 @@ IsReportedAtEnd taken out status r = (status ≡ 1) × IsReported (refusal Trunc
 pub record IsNew (held : Option StrictMachineView) (order keys depth bytes : ℕ) : Type 0 where
   pub machine : StrictMachineView
   pub holds : held ≡ Some machine
-  pub stands : StandsAmid machine [] []
+  pub agrees : AgreesAmid machine [] []
   pub limits : limits_of machine ≡ item_limits keys depth bytes
   pub order_is : machine.order ≡ key_order order
 
@@ -39,7 +39,7 @@ pub record HasRestarted (old new : Option StrictMachineView) (order : ℕ) : Typ
   pub held : old ≡ Some was
   pub now : StrictMachineView
   pub holds : new ≡ Some now
-  pub stands : StandsAmid now [] []
+  pub agrees : AgreesAmid now [] []
   pub limits : limits_of now ≡ limits_of was
   pub order_is : now.order ≡ key_order order
 
@@ -52,7 +52,7 @@ pub record HasChecked (old new : Option StrictMachineView) (bs : List ℕ) (repo
   pub holds : new ≡ Some now
   pub out : Out
   pub reports : reported out now
-  pub says : (t : List ℕ) (ms : List Mark) → StandsAmid was t ms → Says out now (t ++ bs)
+  pub says : (t : List ℕ) (ms : List Mark) → AgreesAmid was t ms → Says out now (t ++ bs)
   pub limits : limits_of now ≡ limits_of was
   pub order : now.order ≡ was.order
   pub taken : now.machine.taken ≡ was.machine.taken + length bs

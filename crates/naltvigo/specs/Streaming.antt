@@ -4,7 +4,7 @@ use Rattle.cbor_head.specs.declared.width.Width.TheVariants as widths
 use Rattle.cbor_head.specs.declared.event.EventKind.TheVariants as kinds
 use Rattle.cbor_head.specs.declared.{width.Width.Width, event.Event.Event, event.EventKind.EventKind}
 use Rattle.theory_automaton.specs.{Marks.count_of, Trace.Mark}
-use Rattle.cbor_machine.specs.Machine.{StandsFor, KeepsLimits, IsAnswer, IsComplete, wanted}
+use Rattle.cbor_machine.specs.Machine.{Represents, KeepsLimits, IsResult, IsComplete, wanted}
 use Rattle.cbor_machine.specs.declared.step.Out.TheVariants as outs
 use Rattle.cbor_machine.specs.{MachineView.MachineView, declared.step.Out.Out, Saved.Holds, declared.machine.saved.SavedMachine.SavedMachine}
 use Rattle.naltvigo.specs.{Reported.IsReported, declared.status.NaltvigoRefusal.NaltvigoRefusal, declared.streaming.NaltvigoEvent.NaltvigoEvent}
@@ -67,13 +67,13 @@ IsReportedEnd outs.Done new status r = (status ≡ 0) × IsComplete new
 IsReportedEnd (outs.Refused refusal) new status r = (status ≡ 1) × IsReported refusal r × (new.refusal ≡ Some refusal)
 
 -- what a step returns of the last bytes, for all bytes and marks that the machine represented before these
-abbrev pub HasAnswered : Out → MachineView → MachineView → List ℕ → Type 0
-HasAnswered out old new last = (t : List ℕ) (ms : List Mark) → StandsFor old t ms → IsAnswer out new t last ms
+abbrev pub HasReturned : Out → MachineView → MachineView → List ℕ → Type 0
+HasReturned out old new last = (t : List ℕ) (ms : List Mark) → Represents old t ms → IsResult out new t last ms
 
 -- the machine used these bytes, and gave these events, one after another
 pub data Gives (from : MachineView) : MachineView → List ℕ → List Event → Type 0 where
   none : Gives from from [] []
-  one_more : (mid to : MachineView) (bs last : List ℕ) (es : List Event) (e : Event) → Gives from mid bs es → HasAnswered (outs.Event e) mid to last
+  one_more : (mid to : MachineView) (bs last : List ℕ) (es : List Event) (e : Event) → Gives from mid bs es → HasReturned (outs.Event e) mid to last
       → Gives from to (bs ++ last) (es ++ e ∷ [])
 
 -- It used these bytes and gave these events, and then no further one: 7 there is no space for it, or as above.
@@ -86,7 +86,7 @@ pub record ReportsOn (old new : MachineView) (bs : List ℕ) (status : ℕ) (eve
   pub last : List ℕ
   pub splits : bs ≡ prefix ++ last
   pub gives : Gives old mid prefix given
-  pub ends : ((status ≡ 7) × (last ≡ []) × (new ≡ mid)) ⊎ ((out : Out) × IsReportedEnd out new status r × HasAnswered out mid new last)
+  pub ends : ((status ≡ 7) × (last ≡ []) × (new ≡ mid)) ⊎ ((out : Out) × IsReportedEnd out new status r × HasReturned out mid new last)
 
 -- Where the item was complete, or refused, the call used nothing and answered the same.
 pub record StaysSo (old new : SavedMachine) (used status : ℕ) (r : NaltvigoRefusal) : Type 0 where

@@ -5,20 +5,20 @@ ghost use Rattle.std.specs.Prelude.{◌≡◌, ◌⊎◌, ◌<◌, ◌≤◌, le
 use crate::status::{OK, TOO_SMALL};
 
 // Writes the result to the start of the buffer, if it fits, and reports its length either way.
-pub(crate) fn give(answer: &[u8], out: &mut [u8], needed: &mut usize) -> u32
-    ensures needed { needed.new ≡ length answer.now }
+pub(crate) fn give(outcome: &[u8], out: &mut [u8], needed: &mut usize) -> u32
+    ensures needed { needed.new ≡ length outcome.now }
     ensures status { (result ≡ OK) ⊎ (result ≡ TOO_SMALL) }
-    ensures given { result ≡ OK → (take (length answer.now) out.new ≡ answer.now)
-        × (length answer.now ≤ length out.old) }
-    ensures too_small { result ≡ TOO_SMALL → (length out.old < length answer.now)
+    ensures given { result ≡ OK → (take (length outcome.now) out.new ≡ outcome.now)
+        × (length outcome.now ≤ length out.old) }
+    ensures too_small { result ≡ TOO_SMALL → (length out.old < length outcome.now)
         × (out.new ≡ out.old) }
-    ensures behind { drop (length answer.now) out.new ≡ drop (length answer.now) out.old }
+    ensures following { drop (length outcome.now) out.new ≡ drop (length outcome.now) out.old }
 {
-    let count = answer.len();
+    let count = outcome.len();
     *needed = count;
     if count > out.len() {
         return TOO_SMALL;
     }
-    out[..count].copy_from_slice(answer);
+    out[..count].copy_from_slice(outcome);
     OK
 }

@@ -9,14 +9,14 @@ ghost use Rattle.cbor_reader.specs.WholeItem.{IsWholeItem, IsItemRefusal};
 ghost use Rattle.naltvigo.specs.Settings.{key_order, item_limits, AreLimits};
 ghost use Rattle.naltvigo.specs.Checking.{HasNoWholePrefix};
 ghost use Rattle.naltvigo.specs.Reported.{ReportsMemory, ReportsOf};
-ghost use Rattle.naltvigo.specs.inner.Checking.{IsOwnAnswer, IsNotOwn};
+ghost use Rattle.naltvigo.specs.inner.Checking.{IsOwnResult, IsNotOwn};
 
 use crate::settings::{limits_of, order_numbered};
 use crate::status::{
     BAD_LIMITS, BAD_ORDER, NO_MEMORY, NaltvigoRefusal, OK, REFUSED, report, reported,
 };
 use cbor_head::{KeyOrder, Limits, Refusal};
-use cbor_reader::laws::{items_and_their_refusals, own_answers_are_strictly_accepted, valid_items};
+use cbor_reader::laws::{items_and_their_refusals, own_results_are_strictly_accepted, valid_items};
 use cbor_reader::{check_canonical, check_valid};
 use std::alloc::Global;
 
@@ -98,10 +98,10 @@ pub extern "C" fn naltvigo_check_valid_raw(
 
 // The item at the start is all of the input; else why it is not one in its canonical bytes.
 pub(crate) fn check_own_bytes(input: &[u8], limits: Limits, order: KeyOrder) -> Result<(), Refusal>
-    ensures own { IfOk result (λ _. IsOwnAnswer limits order input.now) }
+    ensures own { IfOk result (λ _. IsOwnResult limits order input.now) }
     ensures refused { IfErr result (IsNotOwn limits order input.now) }
 {
-    own_answers_are_strictly_accepted();
+    own_results_are_strictly_accepted();
     match check_canonical(input, limits, order) {
         Ok(count) if count < input.len() as u64 => Err(Refusal::trailing(count)),
         Ok(_) => Ok(()),

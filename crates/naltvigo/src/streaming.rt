@@ -81,8 +81,8 @@ pub extern "C" fn naltvigo_machine_take_raw(
     ensures reported { (reported.new ≤ length events.new) × (reported.new ≤ used.new) }
     // The numbers hold the machine that did so, from a start or from the previous call.
     ensures streams { result ≢ BAD_MACHINE → (m : MachineView) → Holds machine.old m
-        → (behind : MachineView) × Holds machine.new behind
-        × ReportsOn m behind (take used.new input.now) result (take reported.new events.new) refusal.new }
+        → (following : MachineView) × Holds machine.new following
+        × ReportsOn m following (take used.new input.now) result (take reported.new events.new) refusal.new }
     ensures held { result ≢ BAD_MACHINE → (m : MachineView) × Holds machine.old m }
     ensures full { result ≡ EVENT → reported.new ≡ length events.new }
     ensures space { result ≢ EVENT → result ≢ BAD_MACHINE → reported.new < length events.new }

@@ -5,9 +5,9 @@ use Rattle.cbor_head.specs.Prelude.{IsBeginning, AreBytes, Chunk, IsChunk, Spell
 use Rattle.cbor_head.specs.declared.major.Major.TheVariants.{Bytes, Text, Array, Map, Tag}
 use Rattle.cbor_head.specs.declared.{major.Major.Major, width.Width.TheVariants.Direct}
 use Rattle.theory_automaton.specs.Automaton.{start, Frame, counted, indefinite_array, indefinite_map, State, at_item, in_head, in_simple, in_payload, in_chunks, done, Next, refuses, goes, reports, close, close_string, expect, payload, after, take_byte, Outcome, refused, reached, reporting, and_then, run}
-use Rattle.theory_automaton.proofs.Stands.{Rest, closing, Opened, IsString, Chunked, Before, Stands, space-of, head-done}
+use Rattle.theory_automaton.proofs.Agrees.{Rest, closing, Opened, IsString, Chunked, Before, Agrees, space-of, head-done}
 use Rattle.theory_automaton.{specs.Trace.Mark, specs.Trace.trace, proofs.Forward.forward, proofs.Forward.reporting_all}
-use Rattle.theory_automaton.proofs.Kept.{StandsOutcome, run-kept}
+use Rattle.theory_automaton.proofs.Kept.{AgreesOutcome, run-kept}
 
 pub shorter : (d : ℕ) (xs ys : List ℕ) → IsBeginning d (xs ++ ys) → IsBeginning d xs
 shorter d xs ys b = (b.0, ys ++ b.1, record { spelled = b.2.spelled; within = b.2.within; bytes_are = b.2.bytes_are ∙ append_assoc xs ys b.1 })
@@ -112,7 +112,7 @@ after-clear false Map n fs = expect-clear (n + n) fs
 after-clear false Tag n fs = expect-clear 1 fs
 after-clear false _ n fs = close-clear fs
 
-settled : (d : ℕ) (q : State) (p : List ℕ) → IsClear q → Stands d q p → IsBeginning d p
+settled : (d : ℕ) (q : State) (p : List ℕ) → IsClear q → Agrees d q p → IsBeginning d p
 settled d (at_item fs) p i o = let h : 0 < 24 = omega arith in shorter d p (0 ∷ []) (complete d fs p zero_item o h (space-of d fs p o))
 settled d (in_head chunk m w k acc fs) p i o = absurd i
 settled d (in_simple fs) p i o = absurd i
@@ -124,16 +124,16 @@ settled d (in_chunks m fs) p i o = begins-along d _ _ (append-nil p) (complete-c
 settled d done p i o = (o.0, [], record { spelled = o.1.spelled; within = o.1.within; bytes_are = o.1.bytes_are ∙ sym (append-nil p) })
 
 -- what led the machine to a state is a beginning
-pub stands-begins : (d : ℕ) (q : State) (p : List ℕ) → Stands d q p → IsBeginning d p
-stands-begins d (in_head chunk m w k acc fs) p o =
+pub agrees-begins : (d : ℕ) (q : State) (p : List ℕ) → Agrees d q p → IsBeginning d p
+agrees-begins d (in_head chunk m w k acc fs) p o =
     let more = replicate (suc k) 0 in
     let whole = o.2 more (length-replicate (suc k) 0) (zero_bytes (suc k)) in
     shorter d p more (begins-along d _ _ (sym whole.0) (settled d _ _ (after-clear chunk m _ fs) (head-done d chunk m w _ fs o.0 o.1 whole.1)))
-stands-begins d (in_simple fs) p o =
+agrees-begins d (in_simple fs) p o =
     let h : 32 ≤ 32 = omega arith in
     let k : 32 < 256 = omega arith in
     shorter d p (32 ∷ []) (begins-along d _ _ (sym (append_assoc o.0 (0xf8 ∷ []) (32 ∷ [])) ∙ ap (λ xs. xs ++ 32 ∷ []) (sym o.2)) (complete d fs o.0 (simple 32) o.1 (k, λ _. h) (space-of d fs o.0 o.1)))
-stands-begins d q p o = settled d q p tt o
+agrees-begins d q p o = settled d q p tt o
 
 -- ---- the two directions
 
@@ -182,12 +182,12 @@ beginning-reaches d p b =
     let whole = item-done d b.0 (p ++ b.1) b.2 in
     reaches-prefix (run d start p) (λ t. run d t b.1) (subst Reaches (sym whole ∙ run-append d p b.1 start) tt)
 
-pub reached-stands : (d : ℕ) (p : List ℕ) (q : State) (ms : List Mark) → AreBytes p → run d start p ≡ reached q ms → Stands d q p
-reached-stands d p q ms h e = subst (λ (o : Outcome). StandsOutcome d o p) e (run-kept d p start [] refl h)
+pub reached-agrees : (d : ℕ) (p : List ℕ) (q : State) (ms : List Mark) → AreBytes p → run d start p ≡ reached q ms → Agrees d q p
+reached-agrees d p q ms h e = subst (λ (o : Outcome). AgreesOutcome d o p) e (run-kept d p start [] refl h)
 
 pub reached-begins : (d : ℕ) (p : List ℕ) (q : State) (ms : List Mark) → AreBytes p → run d start p ≡ reached q ms → IsBeginning d p
-reached-begins d p q ms h e = stands-begins d q p (reached-stands d p q ms h e)
+reached-begins d p q ms h e = agrees-begins d q p (reached-agrees d p q ms h e)
 
 -- only whole items lead to done
 pub done-item : (d : ℕ) (p : List ℕ) (ms : List Mark) → AreBytes p → run d start p ≡ reached done ms → (s : Spelling) × IsItem d s p
-done-item d p ms h e = reached-stands d p done ms h e
+done-item d p ms h e = reached-agrees d p done ms h e

@@ -8,7 +8,7 @@ use Rattle.cbor_head.specs.declared.{major.Major.Major, width.Width.Width, reaso
 use Rattle.theory_automaton.specs.Trace.{Mark, a_head, a_byte, a_break, more_bytes, payload_marks, chunk_marks, trace, trace_all, trace_entries}
 use Rattle.theory_automaton.specs.Automaton.{Frame, counted, indefinite_array, indefinite_map, State, at_item, in_head, in_simple, in_payload, in_chunks, direct, long, Next, refuses, goes, reports, numbered_tail, tail, opening, close, expect, close_string, payload, after, mark, has_space, begin, is_major, take_byte, Outcome, reporting, and_then, run}
 use Rattle.theory_automaton.proofs.Members.{members, members-count, members-bytes, members-marks, members-spelled, members-depth}
-use Rattle.theory_automaton.proofs.Stands.{is_odd, not-not, double-even}
+use Rattle.theory_automaton.proofs.Agrees.{is_odd, not-not, double-even}
 use Rattle.theory_automaton.proofs.{FirstByte.opening-first, FirstByte.opening-direct, Arguments.byte_on}
 
 abbrev pub reporting_all : List Mark → Outcome → Outcome

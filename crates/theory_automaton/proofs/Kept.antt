@@ -7,15 +7,15 @@ use Rattle.cbor_head.specs.declared.width.Width.TheVariants.{Direct, One, Indefi
 use Rattle.cbor_head.specs.declared.{major.Major.Major, width.Width.Width, reason.Reason.Reason}
 use Rattle.theory_automaton.specs.Automaton.{Frame, indefinite_array, indefinite_map, State, at_item, in_head, in_simple, in_payload, in_chunks, done, Opening, direct, long, breaks, Next, refuses, goes, reports, indefinite_length, opening, close, close_string, payload, after, has_space, break_at, begin, is_major, in_string, take_byte, Outcome, refused, reached, reporting, and_then, run}
 use Rattle.theory_automaton.proofs.Arguments.{number, number-between, bytes-number}
-use Rattle.theory_automaton.proofs.Stands.{Opened, IsString, IsNumbered, Chunked, Before, Stands, along, item-closes, paired, space-of, chunk-closes, head-done}
+use Rattle.theory_automaton.proofs.Agrees.{Opened, IsString, IsNumbered, Chunked, Before, Agrees, along, item-closes, paired, space-of, chunk-closes, head-done}
 use Rattle.theory_automaton.{specs.Trace.Mark, specs.Trace.more_bytes, proofs.Openings.IsLong, proofs.Openings.by-byte}
 
-abbrev pub StandsNext : ℕ → Next → List ℕ → Type 0
-StandsNext d (refuses r) p = Unit {0}
-StandsNext d (goes q) p = Stands d q p
-StandsNext d (reports m q) p = Stands d q p
+abbrev pub AgreesNext : ℕ → Next → List ℕ → Type 0
+AgreesNext d (refuses r) p = Unit {0}
+AgreesNext d (goes q) p = Agrees d q p
+AgreesNext d (reports m q) p = Agrees d q p
 
-guarded : (d : ℕ) (p : List ℕ) (b : Bool) (next : Next) (r : Reason) → (b ≡ true → StandsNext d next p) → StandsNext d (cond b next (refuses r)) p
+guarded : (d : ℕ) (p : List ℕ) (b : Bool) (next : Next) (r : Reason) → (b ≡ true → AgreesNext d next p) → AgreesNext d (cond b next (refuses r)) p
 guarded d p true next r h = h refl
 guarded d p false next r h = tt
 
@@ -30,7 +30,7 @@ long-head m w k c made holds more e b =
 
 -- the first byte of a head with an argument after it
 long-begins : (d : ℕ) (chunk : Bool) (m : Major) (w : Width) (k : ℕ) (fs : List Frame) (p : List ℕ) (c : ℕ) → Before d chunk m fs p
-    → ((n : ℕ) → head m w n ≡ c ∷ bytes_high_first (suc k) n) → ((n : ℕ) → n < 256 ^ suc k → Holds w n) → Stands d (in_head chunk m w k 0 fs) (p ++ c ∷ [])
+    → ((n : ℕ) → head m w n ≡ c ∷ bytes_high_first (suc k) n) → ((n : ℕ) → n < 256 ^ suc k → Holds w n) → Agrees d (in_head chunk m w k 0 fs) (p ++ c ∷ [])
 long-begins d chunk m w k fs p c b made holds = (
   p,
   b,
@@ -93,7 +93,7 @@ chunks-open d m fs p first o s e = (
     made _ s cs h = absurd s
 
 abbrev Keeps : ℕ → List Frame → List ℕ → ℕ → Opening → Type 0
-Keeps d fs p c opens = StandsNext d (begin d fs c opens) (p ++ c ∷ [])
+Keeps d fs p c opens = AgreesNext d (begin d fs c opens) (p ++ c ∷ [])
 
 open-kept : (d : ℕ) (fs : List Frame) (p : List ℕ) (m : Major) → Opened d fs p → Keeps d fs p (32 * major_number m + 31) (indefinite_length m)
 open-kept d fs p Bytes o = chunks-open d Bytes fs p 0x5f o tt refl
@@ -102,7 +102,7 @@ open-kept d fs p Array o = guarded d (p ++ 0x9f ∷ []) (nat_lt (length fs) d) _
 open-kept d fs p Map o = guarded d (p ++ 0xbf ∷ []) (nat_lt (length fs) d) _ _ (λ e. map-opens d fs p o (ltb-true (length fs) d e))
 open-kept d fs p _ o = tt
 
-break-kept : (d : ℕ) (fs : List Frame) (p : List ℕ) → Opened d fs p → StandsNext d (break_at fs 0xff) (p ++ 0xff ∷ [])
+break-kept : (d : ℕ) (fs : List Frame) (p : List ℕ) → Opened d fs p → AgreesNext d (break_at fs 0xff) (p ++ 0xff ∷ [])
 break-kept d (indefinite_array ∷ fs) p o =
     let space : length fs < d = o.2 in
     let whole = o.3 no_spellings tt tt (omega arith) in
@@ -134,7 +134,7 @@ is_major-same Text Text e = refl
 is_major-same _ _ e = absurd (true≢false (sym e))
 
 abbrev KeepsChunk : ℕ → Major → List Frame → List ℕ → ℕ → Opening → Type 0
-KeepsChunk d m fs p c opens = StandsNext d (in_string m fs opens) (p ++ c ∷ [])
+KeepsChunk d m fs p c opens = AgreesNext d (in_string m fs opens) (p ++ c ∷ [])
 
 long-chunk : (d : ℕ) (m n : Major) (w : Width) (k : ℕ) (fs : List Frame) (p : List ℕ) (low : ℕ) → Chunked d m fs p → IsLong n w k low → KeepsChunk d m fs p (32 * major_number n + low) (long n w)
 long-chunk d m n w k fs p low b is =
@@ -147,7 +147,7 @@ chunk-direct : (d : ℕ) (m n : Major) (fs : List Frame) (p : List ℕ) (x : ℕ
 chunk-direct d m n fs p x h b =
     guarded d _ (is_major m n) _ _ (λ e.
     let same = is_major-same m n e in
-    subst (λ (j : Major). Stands d (payload true m x fs) (p ++ (32 * major_number j + x) ∷ [])) same (head-done d true m Direct x fs p b h))
+    subst (λ (j : Major). Agrees d (payload true m x fs) (p ++ (32 * major_number j + x) ∷ [])) same (head-done d true m Direct x fs p b h))
 
 string-kept : (d : ℕ) (m : Major) (fs : List Frame) (p : List ℕ) (c : ℕ) → Chunked d m fs p → c < 256 → KeepsChunk d m fs p c (opening c)
 string-kept d m fs p c b h =
@@ -162,7 +162,7 @@ string-kept d m fs p c b h =
         let whole = b.3 [] tt in
         along d (close fs) _ _ (whole.bytes_are ∙ ap (λ xs. xs ++ 0xff ∷ []) (append-nil p)) (item-closes d fs b.0 whole.item b.1 whole.spelled whole.fits)
 
-simple-number-kept : (d : ℕ) (fs : List Frame) (p : List ℕ) (c : ℕ) → Stands d (in_simple fs) p → c < 256 → StandsNext d (take_byte d (in_simple fs) c) (p ++ c ∷ [])
+simple-number-kept : (d : ℕ) (fs : List Frame) (p : List ℕ) (c : ℕ) → Agrees d (in_simple fs) p → c < 256 → AgreesNext d (take_byte d (in_simple fs) c) (p ++ c ∷ [])
 simple-number-kept d fs p c o h = elim (cases_lt c 32) [
   | inl l ↦ rw (lt-ltb c 32 l) tt
   | inr l ↦
@@ -174,7 +174,7 @@ simple-number-kept d fs p c o h = elim (cases_lt c 32) [
 ]
 
 -- one byte of the machine
-pub byte-kept : (d : ℕ) (q : State) (p : List ℕ) (c : ℕ) → Stands d q p → c < 256 → StandsNext d (take_byte d q c) (p ++ c ∷ [])
+pub byte-kept : (d : ℕ) (q : State) (p : List ℕ) (c : ℕ) → Agrees d q p → c < 256 → AgreesNext d (take_byte d q c) (p ++ c ∷ [])
 byte-kept d (at_item fs) p c o h = item-kept d fs p c o h
 byte-kept d (in_head chunk m w zero acc fs) p c o h =
     let whole = o.2 (c ∷ []) refl (h, tt) in
@@ -201,23 +201,23 @@ byte-kept d (in_payload chunk m (suc n) fs) p c o h = (
 byte-kept d (in_chunks m fs) p c o h = string-kept d m fs p c o h
 byte-kept d done p c o h = tt
 
-abbrev pub StandsOutcome : ℕ → Outcome → List ℕ → Type 0
-StandsOutcome d (refused r) p = Unit {0}
-StandsOutcome d (reached q ms) p = Stands d q p
+abbrev pub AgreesOutcome : ℕ → Outcome → List ℕ → Type 0
+AgreesOutcome d (refused r) p = Unit {0}
+AgreesOutcome d (reached q ms) p = Agrees d q p
 
-reporting-kept : (d : ℕ) (m : Mark) (o : Outcome) (p : List ℕ) → StandsOutcome d o p → StandsOutcome d (reporting m o) p
+reporting-kept : (d : ℕ) (m : Mark) (o : Outcome) (p : List ℕ) → AgreesOutcome d o p → AgreesOutcome d (reporting m o) p
 reporting-kept d m (refused r) p h = tt
 reporting-kept d m (reached q ms) p h = h
 
-then-kept : (d : ℕ) (next : Next) (bs p : List ℕ) → ((q : State) → Stands d q p → StandsOutcome d (run d q bs) (p ++ bs)) → StandsNext d next p
-    → StandsOutcome d (and_then next (λ t. run d t bs)) (p ++ bs)
+then-kept : (d : ℕ) (next : Next) (bs p : List ℕ) → ((q : State) → Agrees d q p → AgreesOutcome d (run d q bs) (p ++ bs)) → AgreesNext d next p
+    → AgreesOutcome d (and_then next (λ t. run d t bs)) (p ++ bs)
 then-kept d (refuses r) bs p go h = tt
 then-kept d (goes q) bs p go h = go q h
 then-kept d (reports m q) bs p go h = reporting-kept d m (run d q bs) (p ++ bs) (go q h)
 
 -- the state that the machine reaches represents the bytes so far
-pub run-kept : (d : ℕ) (bs : List ℕ) (q : State) (p : List ℕ) → Stands d q p → AreBytes bs → StandsOutcome d (run d q bs) (p ++ bs)
+pub run-kept : (d : ℕ) (bs : List ℕ) (q : State) (p : List ℕ) → Agrees d q p → AreBytes bs → AgreesOutcome d (run d q bs) (p ++ bs)
 run-kept d [] q p o h = along d q _ _ (sym (append-nil p)) o
 run-kept d (c ∷ cs) q p o h =
-    subst (λ (xs : List ℕ). StandsOutcome d (run d q (c ∷ cs)) xs) (append_assoc p (c ∷ []) cs)
+    subst (λ (xs : List ℕ). AgreesOutcome d (run d q (c ∷ cs)) xs) (append_assoc p (c ∷ []) cs)
     (then-kept d (take_byte d q c) cs (p ++ c ∷ []) (λ t s. run-kept d cs t (p ++ c ∷ []) s h.1) (byte-kept d q p c o h.0))

@@ -1,3 +1,4 @@
+pub mod Agrees
 pub mod Arguments
 pub mod Beginnings
 pub mod Events
@@ -12,6 +13,5 @@ pub mod Opens
 pub mod Refusals
 pub mod Rows
 pub mod Runs
-pub mod Stands
 pub mod Taking
 pub mod Tiling

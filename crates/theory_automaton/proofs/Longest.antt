@@ -8,8 +8,8 @@ use Rattle.theory_automaton.proofs.Beginnings.{onwards, run-append, reached-begi
 use Rattle.theory_automaton.{specs.Trace.Mark, proofs.Forward.reporting_all, proofs.Refusals.taken-follows, proofs.Refusals.IsTaken}
 
 -- a beginning that the next byte may not follow
-pub stands_longest : (d : ℕ) (p : List ℕ) (c : ℕ) (rest : List ℕ) → IsBeginning d p → (MayFollow d p c → ⊥) → IsLongestBeginning d (p ++ c ∷ rest) p
-stands_longest d p c rest begins initial_byte_error = record {
+pub longest_if_refused : (d : ℕ) (p : List ℕ) (c : ℕ) (rest : List ℕ) → IsBeginning d p → (MayFollow d p c → ⊥) → IsLongestBeginning d (p ++ c ∷ rest) p
+longest_if_refused d p c rest begins initial_byte_error = record {
   beginning = begins;
   rest = c ∷ rest;
   splits = refl;
@@ -32,7 +32,7 @@ stands_longest d p c rest begins initial_byte_error = record {
 -- if a byte is refused, the bytes before it are the longest beginning
 pub longest : (d : ℕ) (p : List ℕ) (q : State) (ms : List Mark) (c : ℕ) (rest : List ℕ) (r : Reason) → AreBytes p → c < 256 → run d start p ≡ reached q ms → take_byte d q c ≡ refuses r
     → IsLongestBeginning d (p ++ c ∷ rest) p
-longest d p q ms c rest r hp hc e h = stands_longest d p c rest (reached-begins d p q ms hp e) (λ f. subst IsTaken h ((taken-follows d p q ms c hp hc e).1 f))
+longest d p q ms c rest r hp hc e h = longest_if_refused d p c rest (reached-begins d p q ms hp e) (λ f. subst IsTaken h ((taken-follows d p q ms c hp hc e).1 f))
 
 bytes_more : (p : List ℕ) (c : ℕ) → AreBytes p → c < 256 → AreBytes (p ++ c ∷ [])
 bytes_more [] c h k = (k, tt)

@@ -5,7 +5,7 @@ use Rattle.cbor_head.specs.Prelude.{Holds, head, major_number}
 use Rattle.cbor_head.specs.declared.width.Width.TheVariants.{One, Two, Four, Eight}
 use Rattle.cbor_head.specs.declared.{major.Major.Major, major.Major.TheVariants.Simple, width.Width.Width}
 use Rattle.theory_automaton.specs.Automaton.{Opening, direct, long, long_simple, breaks, bad, numbered_tail, simple_tail, tail, indefinite_length, opening_of, opening}
-use Rattle.theory_automaton.{specs.Trace.more_bytes, proofs.FirstByte.split, proofs.Stands.IsNumbered}
+use Rattle.theory_automaton.{specs.Trace.more_bytes, proofs.FirstByte.split, proofs.Agrees.IsNumbered}
 
 -- the first byte is followed by an argument of k + 1 bytes
 pub record IsLong (m : Major) (w : Width) (k low : ℕ) : Type 0 where

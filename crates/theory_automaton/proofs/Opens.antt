@@ -11,7 +11,7 @@ use Rattle.theory_automaton.specs.Automaton.{Frame, counted, indefinite_array, i
 use Rattle.theory_automaton.specs.Open.{if_open, open_after, open_in}
 use Rattle.theory_automaton.proofs.Forward.{Starts, item_starts, chunk_starts, step, head-taken, string-taken, reporting_all, Leads, counted-leads, array-leads, map-leads, map-even, forward, one-down, space-above}
 use Rattle.theory_automaton.proofs.Members.{members, members-count, members-bytes, members-spelled, members-depth, members-open}
-use Rattle.theory_automaton.proofs.{Stands.is_odd, Beginnings.item-done, Runs.take-behind}
+use Rattle.theory_automaton.proofs.{Agrees.is_odd, Beginnings.item-done, Runs.take-following}
 
 abbrev pub stack : State → List Frame
 stack (at_item fs) = fs
@@ -78,7 +78,7 @@ string-has d q chunk m fs same starts leads w bs t h b = elim (cases_lt t (lengt
       let sizes = length-append (head m w n) bs in
       let less : j < length bs = omega (arith, sizes) in
       let cut : run d q (take t (string_bytes_of m w bs)) ≡ reporting (mark chunk m w n) (run d (payload chunk m n fs) (take j bs)) =
-      ap (run d q) (take-behind t (head m w n) bs k) ∙ head-taken d q chunk m fs starts w n (take j bs) h ∙ ap (λ u. reporting (mark chunk m w n) (run d u (take j bs))) (leads n) in
+      ap (run d q) (take-following t (head m w n) bs k) ∙ head-taken d q chunk m fs starts w n (take j bs) h ∙ ap (λ u. reporting (mark chunk m w n) (run d u (take j bs))) (leads n) in
       subst (λ (o : Outcome). Has (length fs) o) (sym cut) (reporting-has (length fs) _ _ (payload-has d chunk m fs bs j less))
 ]
 
@@ -97,7 +97,7 @@ chunks-has d m fs starts (c ∷ cs) t h b =
       | inr k ↦
           let j = t - length here in
           let less : j < length rest = omega (arith, sizes) in
-          let cut = ap (run d (in_chunks m fs)) (take-behind t here rest k) ∙ string-taken d (in_chunks m fs) true m fs starts (λ n. refl) c.width c.payload (take j rest) h.0.0 in
+          let cut = ap (run d (in_chunks m fs)) (take-following t here rest k) ∙ string-taken d (in_chunks m fs) true m fs starts (λ n. refl) c.width c.payload (take j rest) h.0.0 in
           subst (λ (o : Outcome). Has (length fs) o) (sym cut) (reporting_all-has (length fs) (chunk_marks c) _ (chunks-has d m fs starts cs j h.1 less))
     ])
 
@@ -132,7 +132,7 @@ members-has d fs ending l last (a_spelling s ss) f h b t from k less =
           let same : t - from - length (spell s) ≡ t - j = omega arith in
           let fewer : t - j < length rest = omega (arith, sizes) in
           let deep : depth_all ss + suc (length fs) ≤ d = omega arith in
-          let cut = ap (run d (at_item (l.expected ss ∷ fs))) (take-behind (t - from) (spell s) rest i)
+          let cut = ap (run d (at_item (l.expected ss ∷ fs))) (take-following (t - from) (spell s) rest i)
           ∙ forward d s (l.expected ss ∷ fs) (take (t - from - length (spell s)) rest) h.0 (omega arith)
           ∙ ap (λ q. reporting_all (trace s) (run d q (take (t - from - length (spell s)) rest))) (l.closes ss)
           ∙ ap (λ n. reporting_all (trace s) (run d (l.here ss) (take n rest))) same in
@@ -152,7 +152,7 @@ container-has d fs hd xs all m u inner t heads taken within e b = elim (cases_lt
       rw (lt-leb (length hd) t k) (subst (λ (ys : List ℕ). Has (length fs + 0) (run d (at_item fs) ys)) (sym cut) (none-more (length fs) _ (heads k)))
   | inr k ↦
       let sizes : length all ≡ length hd + length xs = ap length e ∙ length-append hd xs in
-      let cut : run d (at_item fs) (take t all) ≡ reporting m (run d u (take (t - length hd) xs)) = ap (run d (at_item fs)) (ap (take t) e ∙ take-behind t hd xs k) ∙ taken (take (t - length hd) xs) in
+      let cut : run d (at_item fs) (take t all) ≡ reporting m (run d u (take (t - length hd) xs)) = ap (run d (at_item fs)) (ap (take t) e ∙ take-following t hd xs k) ∙ taken (take (t - length hd) xs) in
       let one : suc (length fs) + inner ≡ length fs + suc inner = omega arith in
       rw (le-leb (length hd) t k, lt-ltb t (length all) b)
       (subst (λ (o : Outcome). Has (length fs + suc inner) o) (sym cut)

@@ -4,8 +4,8 @@ use Rattle.cbor_head.specs.Prelude.{IsBeginning, MayFollow, AreBytes, IsReasonAt
 use Rattle.cbor_head.specs.declared.major.Major.TheVariants.{Unsigned, Negative, Bytes}
 use Rattle.cbor_head.specs.declared.{major.Major.Major, reason.Reason.Reason, reason.Reason.TheVariants.BadSimple, reason.Reason.TheVariants.BadChunk}
 use Rattle.theory_automaton.specs.Automaton.{start, Frame, indefinite_array, indefinite_map, State, at_item, in_head, in_simple, in_payload, in_chunks, done, Opening, direct, long, indefinite_string, indefinite_container, long_simple, breaks, bad, Next, refuses, goes, reports, opening, has_space, break_at, begin, is_major, in_string, take_byte, Outcome, refused, reached, reporting, and_then, run}
-use Rattle.theory_automaton.proofs.Beginnings.{Reaches, onwards, run-append, beginning-reaches, reached-stands, stands-begins}
-use Rattle.theory_automaton.{specs.Trace.Mark, proofs.Forward.reporting_all, proofs.Kept.StandsNext, proofs.Kept.byte-kept}
+use Rattle.theory_automaton.proofs.Beginnings.{Reaches, onwards, run-append, beginning-reaches, reached-agrees, agrees-begins}
+use Rattle.theory_automaton.{specs.Trace.Mark, proofs.Forward.reporting_all, proofs.Kept.AgreesNext, proofs.Kept.byte-kept}
 
 abbrev pub IsTaken : Next → Type 0
 IsTaken (refuses r) = ⊥
@@ -25,16 +25,16 @@ taken-reaches d (refuses r) h = h
 taken-reaches d (goes q) h = tt
 taken-reaches d (reports m q) h = tt
 
-taken-begins : (d : ℕ) (next : Next) (p : List ℕ) → IsTaken next → StandsNext d next p → IsBeginning d p
+taken-begins : (d : ℕ) (next : Next) (p : List ℕ) → IsTaken next → AgreesNext d next p → IsBeginning d p
 taken-begins d (refuses r) p t s = absurd t
-taken-begins d (goes q) p t s = stands-begins d q p s
-taken-begins d (reports m q) p t s = stands-begins d q p s
+taken-begins d (goes q) p t s = agrees-begins d q p s
+taken-begins d (reports m q) p t s = agrees-begins d q p s
 
 -- the machine accepts exactly the bytes that may follow
 pub taken-follows : (d : ℕ) (p : List ℕ) (q : State) (ms : List Mark) (c : ℕ) → AreBytes p → c < 256 → run d start p ≡ reached q ms → IsTaken (take_byte d q c) ↔ MayFollow d p c
 unfolding onwards
 taken-follows d p q ms c hp hc e = (
-  λ t. taken-begins d (take_byte d q c) (p ++ c ∷ []) t (byte-kept d q p c (reached-stands d p q ms hp e) hc),
+  λ t. taken-begins d (take_byte d q c) (p ++ c ∷ []) t (byte-kept d q p c (reached-agrees d p q ms hp e) hc),
   λ f.
       let r : Reaches (run d start (p ++ c ∷ [])) = beginning-reaches d (p ++ c ∷ []) f in
       let moved : run d start (p ++ c ∷ []) ≡ reporting_all ms (run d q (c ∷ [])) = run-append d p (c ∷ []) start ∙ ap (λ o. onwards o (λ t. run d t (c ∷ []))) e in

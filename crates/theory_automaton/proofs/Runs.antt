@@ -11,8 +11,8 @@ use Rattle.theory_automaton.proofs.Events.{IsSane, pending, clear-pending, by-ru
 use Rattle.theory_automaton.proofs.{Forward.reporting_all, Refusals.IsUnfinished}
 
 -- a prefix of xs and ys that ends within ys
-pub take-behind : (t : ℕ) (xs ys : List ℕ) → length xs ≤ t → take t (xs ++ ys) ≡ xs ++ take (t - length xs) ys
-take-behind t xs ys h =
+pub take-following : (t : ℕ) (xs ys : List ℕ) → length xs ≤ t → take t (xs ++ ys) ≡ xs ++ take (t - length xs) ys
+take-following t xs ys h =
     let e : length xs + (t - length xs) ≡ t = omega arith in
     subst (λ (n : ℕ). take n (xs ++ ys) ≡ xs ++ take (t - length xs) ys) e (take-append-add xs ys (t - length xs))
 

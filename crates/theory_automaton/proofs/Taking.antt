@@ -9,7 +9,7 @@ use Rattle.theory_automaton.specs.Trace.{Mark, a_head, more_bytes}
 use Rattle.theory_automaton.specs.Automaton.{Frame, indefinite_array, indefinite_map, State, at_item, in_head, in_simple, in_payload, in_chunks, done, Opening, Next, refuses, goes, reports, indefinite_length, opening, after, has_space, break_at, begin, is_major, in_string, take_byte, Outcome, refused, reached, reporting, and_then, run}
 use Rattle.theory_automaton.{specs.Taking.Follows, specs.Taking.IsTaking, proofs.Openings.by-byte, proofs.Arguments.number}
 pub use Rattle.theory_automaton.proofs.Events.{IsClear}
-pub use Rattle.theory_automaton.proofs.Stands.{IsNumbered}
+pub use Rattle.theory_automaton.proofs.Agrees.{IsNumbered}
 use Rattle.theory_automaton.proofs.Events.{close-clear, close_string-clear, payload-clear, after-clear}
 use Rattle.theory_automaton.proofs.Kept.{is_major-same, long-head}
 

@@ -10,7 +10,7 @@ use Rattle.theory_automaton.specs.Trace.{Mark, a_head, a_chunk, a_byte, a_break,
 use Rattle.theory_automaton.specs.Automaton.{Frame, counted, indefinite_array, indefinite_map, close, expect, close_string, payload, State, start, at_item, in_payload, in_chunks, Next, refuses, goes, reports, take_byte, and_then, run, reached}
 use Rattle.theory_automaton.specs.Taking.{IsTaking, Follows, Opens, Ends}
 use Rattle.theory_automaton.specs.Marks.{mark_of, marks_of, IsProper}
-use Rattle.theory_automaton.specs.Bytes.{type_behind, last_type, IsChunkHead, IsMarkBytes, IsBytesOf, IsEventBytes}
+use Rattle.theory_automaton.specs.Bytes.{type_after, last_type, IsChunkHead, IsMarkBytes, IsBytesOf, IsEventBytes}
 use Rattle.theory_automaton.proofs.Taking.{IsClear, IsWithin, IsTakingNext, byte-taken, within-start, clear-nothing}
 use Rattle.theory_automaton.proofs.Events.{reporting-reached}
 
@@ -71,7 +71,7 @@ typed-more true m n k fs type h = h
 typed-more false m n k fs type h = tt
 
 -- a mark's bytes, after a head of some type
-mark-bytes : (d : ℕ) (q t : State) (m : Mark) (bs : List ℕ) (type : Option Major) → IsTyped q type → IsTaking d q m bs t → IsMarkBytes type m bs × IsTyped t (type_behind type m)
+mark-bytes : (d : ℕ) (q t : State) (m : Mark) (bs : List ℕ) (type : Option Major) → IsTyped q type → IsTaking d q m bs t → IsMarkBytes type m bs × IsTyped t (type_after type m)
 mark-bytes d (at_item fs) t (a_head m Indefinite n) bs type y h = ((h.0, h.1), typed-opens d fs m t h.2)
 mark-bytes d (at_item fs) t (a_head m w n) bs type y h = ((is-head d fs m w n t h.1 h.2, h.0), typed-follows d fs m w n t h.2)
 mark-bytes d (at_item fs) t a_break bs type y h = (h.0, typed-ends fs t type h.1)
@@ -100,7 +100,7 @@ mark-size type _ bs h = ap length h.1
 -- each mark with its bytes, one after another, after a head of some type
 abbrev pub AreMarkBytes : Option Major → List Mark → List ℕ → Type 0
 AreMarkBytes type [] bs = bs ≡ []
-AreMarkBytes type (m ∷ ms) bs = (xs : List ℕ) × (ys : List ℕ) × (bs ≡ xs ++ ys) × IsMarkBytes type m xs × AreMarkBytes (type_behind type m) ms ys
+AreMarkBytes type (m ∷ ms) bs = (xs : List ℕ) × (ys : List ℕ) × (bs ≡ xs ++ ys) × IsMarkBytes type m xs × AreMarkBytes (type_after type m) ms ys
 
 -- the bytes of the marks, and after them those of the open head
 pub record Tiled (d : ℕ) (t : State) (type : Option Major) (all : List ℕ) (ms : List Mark) : Type 0 where
@@ -136,7 +136,7 @@ run-tiled d (c ∷ cs) from q t type pre ms h y b e =
         let is = reporting-reached m (run d u cs) t ms e in
         let here = pre ++ c ∷ [] in
         let of = mark-bytes d from u m here type y k.0 in
-        let rest = ih u u (type_behind type m) [] is.0 (within-start d u k.1) of.1 is.1 in
+        let rest = ih u u (type_after type m) [] is.0 (within-start d u k.1) of.1 is.1 in
         record {
           prefix = here ++ rest.prefix;
           back = rest.back;
@@ -149,17 +149,17 @@ run-tiled d (c ∷ cs) from q t type pre ms h y b e =
 -- ---- the bytes of the last event
 
 -- the bytes of the later marks
-pub record Behind (type : Option Major) (ms ns : List Mark) (bs : List ℕ) : Type 0 where
+pub record FollowingBytes (type : Option Major) (ms ns : List Mark) (bs : List ℕ) : Type 0 where
   pub prefix : List ℕ
   pub back : List ℕ
   pub splits : bs ≡ prefix ++ back
   pub size_is : length prefix ≡ total ms
   pub marks : AreMarkBytes (last_type type ms) ns back
 
-behind : (type : Option Major) (ms ns : List Mark) (bs : List ℕ) → AreMarkBytes type (ms ++ ns) bs → Behind type ms ns bs
-behind type [] ns bs h = record { prefix = []; back = bs; splits = refl; size_is = refl; marks = h }
-behind type (m ∷ ms) ns bs h =
-    let rest = behind (type_behind type m) ms ns h.1 h.4 in
+following : (type : Option Major) (ms ns : List Mark) (bs : List ℕ) → AreMarkBytes type (ms ++ ns) bs → FollowingBytes type ms ns bs
+following type [] ns bs h = record { prefix = []; back = bs; splits = refl; size_is = refl; marks = h }
+following type (m ∷ ms) ns bs h =
+    let rest = following (type_after type m) ms ns h.1 h.4 in
     let one = mark-size type m h.0 h.3 in
     let more = rest.size_is in
     record {
@@ -194,6 +194,6 @@ last-bytes d t bs ms w kind b e clear proper =
     let tiled = run-tiled d bs start start t None [] (ms ++ marks_of w kind) (refl, refl) tt b e in
     let nothing = (clear-nothing d tiled.begun t tiled.back clear tiled.within).1 in
     let all : bs ≡ tiled.prefix = tiled.splits ∙ ap (λ xs. tiled.prefix ++ xs) nothing ∙ append-nil tiled.prefix in
-    let parts = behind None ms (marks_of w kind) tiled.prefix tiled.marks in
+    let parts = following None ms (marks_of w kind) tiled.prefix tiled.marks in
     let past : drop (total ms) bs ≡ parts.back = ap (λ n. drop n bs) (sym parts.size_is) ∙ ap (drop (length parts.prefix)) (all ∙ parts.splits) ∙ drop-append_seam parts.prefix parts.back in
     subst (λ (xs : List ℕ). IsEventBytes ms w kind xs) (sym past) (proper, event-bytes (last_type None ms) w kind parts.back parts.marks)

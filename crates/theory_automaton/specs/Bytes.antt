@@ -12,14 +12,14 @@ IsHeadBytes major Indefinite n bs = (n ≡ 0) × (bs ≡ head major Indefinite 0
 IsHeadBytes major w n bs = IsHead major w n × (bs ≡ head major w n)
 
 -- The type of the last head of an item. The head of a chunk does not change it: it is the type of the chunk's string.
-abbrev pub type_behind : Option Major → Mark → Option Major
-type_behind type (a_head major w n) = Some major
-type_behind type m = type
+abbrev pub type_after : Option Major → Mark → Option Major
+type_after type (a_head major w n) = Some major
+type_after type m = type
 
 -- the same for these marks
 abbrev pub last_type : Option Major → List Mark → Option Major
 last_type type [] = type
-last_type type (m ∷ ms) = last_type (type_behind type m) ms
+last_type type (m ∷ ms) = last_type (type_after type m) ms
 
 -- the definite head of a chunk, of its string's type
 abbrev pub IsChunkHead : Option Major → Width → ℕ → List ℕ → Type 0

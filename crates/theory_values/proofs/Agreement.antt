@@ -10,10 +10,10 @@ use Rattle.theory_values.proofs.Reported.{pair_of, pair_in, in_pair, length-cano
 use Rattle.theory_values.proofs.{Members.In, Sorting.in_order_same, Sorting.length-in_order, Sameness.SameMaps, Sameness.same_maps}
 use Rattle.theory_values.specs.Pairs.{pair_bytes}
 
-abbrev Agrees : KeyOrder → Value → Type 0
-Agrees o v = (w : Value) → IsSound v → IsSound w → Same v w → canonical o v ≡ canonical o w
+abbrev HasOneEncoding : KeyOrder → Value → Type 0
+HasOneEncoding o v = (w : Value) → IsSound v → IsSound w → Same v w → canonical o v ≡ canonical o w
 
-agrees_array : (o : KeyOrder) (vs : Values) → AllOf (Agrees o) vs → (ws : Values) → AreInRange vs × AreValid vs → AreInRange ws × AreValid ws → SameValues vs ws
+agrees_array : (o : KeyOrder) (vs : Values) → AllOf (HasOneEncoding o) vs → (ws : Values) → AreInRange vs × AreValid vs → AreInRange ws × AreValid ws → SameValues vs ws
     → (values_count vs ≡ values_count ws) × (canonical_all o vs ≡ canonical_all o ws)
 agrees_array o no_values a no_values h g s = (refl, refl)
 agrees_array o no_values a (a_value w ws) h g s = absurd s
@@ -23,13 +23,13 @@ agrees_array o (a_value v vs) a (a_value w ws) h g s =
     let rest = agrees_array o vs a.1 ws (h.0.1, h.1.1) (g.0.1, g.1.1) s.1 in
     (ap suc rest.0, λ i. one i ++ rest.1 i)
 
-agrees_map : (o : KeyOrder) (es : Entries) → AllIn (Agrees o) es → (fs : Entries) → IsSound (map es) → IsSound (map fs) → SameMaps es fs → canonical o (map es) ≡ canonical o (map fs)
+agrees_map : (o : KeyOrder) (es : Entries) → AllIn (HasOneEncoding o) es → (fs : Entries) → IsSound (map es) → IsSound (map fs) → SameMaps es fs → canonical o (map es) ≡ canonical o (map fs)
 agrees_map o es a fs h g s =
     λ i. shortest_head Map (count i) ++ flat_map pair_bytes (sorted i)
   where
     visited : (k v k' v' : Value) → HasEntry es k v → HasEntry fs k' v' → Same k k' → Same v v' → pair_of o k v ≡ pair_of o k' v'
     visited k v k' v' m n p q =
-        let b = AllIn-at (Agrees o) es k v a m in
+        let b = AllIn-at (HasOneEncoding o) es k v a m in
         let x = sound_at es k v h.range.1 h.valid.0 m in
         let y = sound_at fs k' v' g.range.1 g.valid.0 n in
         let ke = b.0 k' x.0 y.0 p in
@@ -57,7 +57,7 @@ agrees_map o es a fs h g s =
     count = sym (length-canonical_entries o es) ∙ sym (length-in_order o (canonical_entries o es)) ∙ ap length sorted ∙ length-in_order o (canonical_entries o fs) ∙ length-canonical_entries o fs
 
 pub canonical_agrees : (o : KeyOrder) (v w : Value) → IsSound v → IsSound w → Same v w → canonical o v ≡ canonical o w
-canonical_agrees o = by_cases {P = Agrees o} (record {
+canonical_agrees o = by_cases {P = HasOneEncoding o} (record {
   at_unsigned = λ n. elim [ unsigned m ↦ λ h g s. ap (λ k. canonical o (unsigned k)) s | _ ↦ λ h g s. absurd s ];
   at_negative = λ n. elim [ negative m ↦ λ h g s. ap (λ k. canonical o (negative k)) s | _ ↦ λ h g s. absurd s ];
   at_bytes = λ n. elim [ bytes m ↦ λ h g s. ap (λ k. canonical o (bytes k)) s | _ ↦ λ h g s. absurd s ];

@@ -23,11 +23,11 @@ pub kind_rank : (s : Spelling) (c : Complaint) → OfKinds 0 s c → rank c.reas
 kind_rank s c h = ap (λ (x : Complaint). rank x.reason) ((of_kind s 0 c h).is)
 
 pub complaints_reported : (limits : Bounds) (r : Rules) → AreReportedByBytes (IsComplaint limits r)
-complaints_reported limits r = record { agree = agrees; alone = one }
+complaints_reported limits r = record { agree = same_reported; alone = one }
   where
-    agrees : (d : ℕ) (s t : Spelling) (p a b : List ℕ) → IsItem d s (p ++ a) → IsItem d t (p ++ b) → (c : Complaint) → c.end ≤ length p → IsComplaint limits r s c → IsComplaint limits r t c
-    agrees d s t p a b i j c l (inl h) = inl (same_complaints d s t p a b i j r c l h)
-    agrees d s t p a b i j c l (inr h) = inr (h.0, h.1, same_kinds d s t p a b i j c l h.2)
+    same_reported : (d : ℕ) (s t : Spelling) (p a b : List ℕ) → IsItem d s (p ++ a) → IsItem d t (p ++ b) → (c : Complaint) → c.end ≤ length p → IsComplaint limits r s c → IsComplaint limits r t c
+    same_reported d s t p a b i j c l (inl h) = inl (same_complaints d s t p a b i j r c l h)
+    same_reported d s t p a b i j c l (inr h) = inr (h.0, h.1, same_kinds d s t p a b i j c l h.2)
 
     one : (s : Spelling) (c e : Complaint) → c.end ≡ e.end → rank c.reason ≡ rank e.reason → IsComplaint limits r s c → IsComplaint limits r s e → c ≡ e
     one s c e f g (inl h) (inl i) = apart s r 0 c e f g h i

@@ -69,7 +69,7 @@ pub record IsWithin (from to : ℕ) (c : Complaint) : Type 0 where
   pub later : from < c.end
   pub within : c.end ≤ to
 
-wider : {from to before behind : ℕ} {c : Complaint} → IsWithin from to c → before ≤ from → to ≤ behind → IsWithin before behind c
+wider : {from to before following : ℕ} {c : Complaint} → IsWithin from to c → before ≤ from → to ≤ following → IsWithin before following c
 wider w l h = record { is = w.is; later = omega (arith, w.later, l); within = omega (arith, w.within, h) }
 
 pub kind_end : (c : Complaint) (at : ℕ) → c ≡ complaint (at + 1) at KeyKind → c.end ≡ at + 1

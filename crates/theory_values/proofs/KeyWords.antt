@@ -10,16 +10,16 @@ use Rattle.theory_values.{proofs.KeyByteLists.bytes_drop, specs.KeyPrefix.digits
 use Rattle.theory_values.proofs.KeyPrefixes.{agree_prefix, below}
 
 -- a common prefix of two lists decides nothing
-pub behind_same : (n : ℕ) (xs ys : List ℕ) → take n xs ≡ take n ys → n ≤ length xs → n ≤ length ys → slice_cmp nat_cmp xs ys ≡ slice_cmp nat_cmp (drop n xs) (drop n ys)
-behind_same zero xs ys e l m = refl
-behind_same (suc n) [] ys e l m = absurd (omega (arith, l))
-behind_same (suc n) (x ∷ xs) [] e l m = absurd (omega (arith, m))
-behind_same (suc n) (x ∷ xs) (y ∷ ys) e l m =
+pub after_same : (n : ℕ) (xs ys : List ℕ) → take n xs ≡ take n ys → n ≤ length xs → n ≤ length ys → slice_cmp nat_cmp xs ys ≡ slice_cmp nat_cmp (drop n xs) (drop n ys)
+after_same zero xs ys e l m = refl
+after_same (suc n) [] ys e l m = absurd (omega (arith, l))
+after_same (suc n) (x ∷ xs) [] e l m = absurd (omega (arith, m))
+after_same (suc n) (x ∷ xs) (y ∷ ys) e l m =
     let first : x ≡ y = cc in
     let rest : take n xs ≡ take n ys = cc in
     ap (λ (k : ℕ). ordering_then (nat_cmp x k) (slice_cmp nat_cmp xs ys)) (sym first)
     ∙ ap (λ (r : Ordering). ordering_then r (slice_cmp nat_cmp xs ys)) (tied_itself nat_cmp_total x)
-    ∙ behind_same n xs ys rest (omega (arith, l)) (omega (arith, m))
+    ∙ after_same n xs ys rest (omega (arith, l)) (omega (arith, m))
 
 -- equal numbers of n bytes, equal bytes
 same_digits : (n : ℕ) (xs ys : List ℕ) → AreBytes xs → AreBytes ys → n ≤ length xs → n ≤ length ys → digits n xs ≡ digits n ys → take n xs ≡ take n ys
@@ -44,7 +44,7 @@ pub word_decides : (n : ℕ) (xs ys : List ℕ) (a b : ℕ) → AreBytes xs → 
 word_decides n xs ys a b h g l m e f k d =
     go (nat_cmp a b) refl (ranked a b (nat_cmp a b) refl)
     ∙ agree_prefix a b (drop n xs) (drop n ys) (bytes_drop n xs h) (bytes_drop n ys g) f k
-    ∙ sym (behind_same n xs ys e l m)
+    ∙ sym (after_same n xs ys e l m)
   where
     go : (r : Ordering) → nat_cmp a b ≡ r → MatchOrdering r (a < b) (a ≡ b) (b < a) → nat_cmp a b ≡ ordering_then (nat_cmp a b) (slice_cmp nat_cmp (drop n xs) (drop n ys))
     go Equal c t = absurd (d t)
@@ -61,7 +61,7 @@ none_greater (x ∷ xs) l = refl
 -- if the common length is equal, the lengths decide
 pub lengths_decide : (n : ℕ) (xs ys : List ℕ) → take n xs ≡ take n ys → n ≤ length xs → n ≤ length ys → (length xs ≡ n) ⊎ (length ys ≡ n)
     → nat_cmp (length xs) (length ys) ≡ slice_cmp nat_cmp xs ys
-lengths_decide n xs ys e l m end = go (nat_cmp (length xs) (length ys)) refl (ranked (length xs) (length ys) (nat_cmp (length xs) (length ys)) refl) ∙ sym (behind_same n xs ys e l m)
+lengths_decide n xs ys e l m end = go (nat_cmp (length xs) (length ys)) refl (ranked (length xs) (length ys) (nat_cmp (length xs) (length ys)) refl) ∙ sym (after_same n xs ys e l m)
   where
     go : (r : Ordering) → nat_cmp (length xs) (length ys) ≡ r → MatchOrdering r (length xs < length ys) (length xs ≡ length ys) (length ys < length xs)
         → nat_cmp (length xs) (length ys) ≡ slice_cmp nat_cmp (drop n xs) (drop n ys)

@@ -63,8 +63,8 @@ module _ {X : Type 0} (view : X → Value) where
       ap (λ k. take k xs ++ take (n - at) (drop at xs)) whole ∙ ap (λ k. take at xs ++ take (k - at) (drop at xs)) e
       ∙ ap (λ (ys : List (X × X)). take at xs ++ ys) (take_rest xs at) ∙ take-append-drop at xs
 
-  pub visited_behind : (p : X × X) (xs : List (X × X)) (at n : ℕ) → n ≡ length xs → IsVisited p (slice_range xs at n) → IsVisited p xs
-  visited_behind p xs at n e m = subst (IsVisited p) (parts xs at n e) ((visited_append p (slice_range xs 0 at) (slice_range xs at n)).1 (inr m))
+  pub visited_after : (p : X × X) (xs : List (X × X)) (at n : ℕ) → n ≡ length xs → IsVisited p (slice_range xs at n) → IsVisited p xs
+  visited_after p xs at n e m = subst (IsVisited p) (parts xs at n e) ((visited_append p (slice_range xs 0 at) (slice_range xs at n)).1 (inr m))
 
   pub visited_before : (p : X × X) (xs : List (X × X)) (at n : ℕ) → n ≡ length xs → (IsVisited p (slice_range xs at n) → ⊥) → IsVisited p (slice_range xs 0 at) ↔ IsVisited p xs
   visited_before p xs at n e miss =

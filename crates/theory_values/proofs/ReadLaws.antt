@@ -168,8 +168,8 @@ mutual
       let more : length (spell_entries es) < j = omega (arith, length_spell k, length-append (spell k ++ spell v) (spell_entries es), length-append (spell k) (spell v)) in
       rw (append_assoc (spell k ++ spell v) (spell_entries es) (0xff ∷ x), append_assoc (spell k) (spell v) (spell_entries es ++ (0xff ∷ x)), reads k h.0 d (omega arith) (spell v ++ (spell_entries es ++ (0xff ∷ x))), reads v h.1 d (omega arith) (spell_entries es ++ (0xff ∷ x)), reads_pairs_until es h.2 d (omega arith) j more x) refl
 
-same_answer : (s t : Spelling) (x y : List ℕ) → ◌≡◌ {A = Option (Spelling × List ℕ)} (Some (s, x)) (Some (t, y)) → (s ≡ t) × (x ≡ y)
-same_answer s t x y e =
+same_result : (s t : Spelling) (x y : List ℕ) → ◌≡◌ {A = Option (Spelling × List ℕ)} (Some (s, x)) (Some (t, y)) → (s ≡ t) × (x ≡ y)
+same_result s t x y e =
     let p : ◌≡◌ {A = Spelling × List ℕ} (s, x) (t, y) = cc e in
     (ap (λ (q : Spelling × List ℕ). q.0) p, ap (λ (q : Spelling × List ℕ). q.1) p)
 
@@ -179,7 +179,7 @@ unique s t hs ht x y e =
     let d = max (depth s) (depth t) in
     let a : read d (spell s ++ x) ≡ Some (s, x) = reads s hs d (omega arith) x in
     let b : read d (spell t ++ y) ≡ Some (t, y) = reads t ht d (omega arith) y in
-    same_answer s t x y (sym a ∙ ap (read d) e ∙ b)
+    same_result s t x y (sym a ∙ ap (read d) e ∙ b)
 
 -- a byte list has at most one spelling
 pub one_list : (s t : Spelling) → IsSpelled s → IsSpelled t → spell s ≡ spell t → s ≡ t

@@ -117,12 +117,12 @@ module _ (o : KeyOrder) where
     strict_entries (entry k v es) before at h f =
         let r = strict_spelling k at h.0 (λ c x. f c (inl x)) in
         let q = strict_spelling v (at + length (spell k)) h.1 (λ c x. f c (inr (inr (inl x)))) in
-        let behind : ℕ = at + length (spell k) + length (spell v) in
-        let g : (c : Complaint) → ComplainsInEntries (strict o) behind (k ∷ before) es c → ⊥ = λ c x. f c (inr (inr (inr x))) in
-        let t = strict_entries es (k ∷ before) behind h.2 g in
+        let following : ℕ = at + length (spell k) + length (spell v) in
+        let g : (c : Complaint) → ComplainsInEntries (strict o) following (k ∷ before) es c → ⊥ = λ c x. f c (inr (inr (inr x))) in
+        let t = strict_entries es (k ∷ before) following h.2 g in
         record {
           range = (r.sound.range, q.sound.range, t.range);
           valid = (r.sound.valid, q.sound.valid, t.valid);
           pairs_are = λ i. record { key = r.bytes_are i; value = q.bytes_are i } ∷ t.pairs_are i;
-          rising = rising_cons o (record { key = spell k; value = spell v }) (pairs es) (below_all o es k before behind g) t.rising;
+          rising = rising_cons o (record { key = spell k; value = spell v }) (pairs es) (below_all o es k before following g) t.rising;
         }

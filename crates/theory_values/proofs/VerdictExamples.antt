@@ -1,7 +1,7 @@
 -- Examples of complaints, of which comes first, and of verdicts.
 use Rattle.std.proofs.Common.{ℕ, ◌≡◌, ◌<◌, ◌≤◌, ◌⊎◌, inl, inr, List, [], ◌∷◌, ◌++◌, length, take, refl, ap, ◌∙◌, sym, arith, subst, append-nil, length-append}
 use Rattle.std.{specs.Char.encode_utf8, specs.Str.chars, specs.Str.is_utf8, specs.Str.Lossy.utf8_valid_len, proofs.lemmas.Str.is_utf8-from_IsUtf8}
-use Rattle.cbor_head.specs.Prelude.{IsBeginning, Rules, form, plain, strict, Complaint, complaint, Complains, Bounds, bounds, Spelling, unsigned, negative, text, text_chunks, array, a_map, IsItem, IsSpelled, spell, depth, IsVerdictBy, IsVerdict, DecidesBy, Answer, rank, accepted, refused, refusal}
+use Rattle.cbor_head.specs.Prelude.{IsBeginning, Rules, form, plain, strict, Complaint, complaint, Complains, Bounds, bounds, Spelling, unsigned, negative, text, text_chunks, array, a_map, IsItem, IsSpelled, spell, depth, IsVerdictBy, IsVerdict, DecidesBy, Decision, rank, accepted, refused, refusal}
 use Rattle.cbor_head.specs.declared.reason.Reason.TheVariants.{Truncated, TooLong, StrayBreak, InvalidText, RepeatedKey, NotShortest, Indefinite as IndefiniteReason, KeyOrder}
 use Rattle.cbor_head.specs.declared.width.Width.TheVariants.{Direct, One, Indefinite}
 use Rattle.cbor_head.specs.{Read.read, declared.order.KeyOrder.TheVariants.Bytewise, declared.order.KeyOrder.TheVariants.LengthFirst}
@@ -9,7 +9,7 @@ use Rattle.theory_values.proofs.Examples.{chunk, members, pairs}
 use Rattle.theory_values.proofs.{KindsUnasked.any_verdict, ReadLaws.reads, ReadLaws.break_none}
 
 -- the verdict if the first n bytes of the input are a beginning
-pub by_beginning : (P : Spelling → Complaint → Type 0) (limits : Bounds) (input p : List ℕ) (s : Spelling) (rest : List ℕ) (a : Answer) → take limits.bytes input ≡ p → IsSpelled s → depth s ≤ limits.depth → spell s ≡ p ++ rest → DecidesBy P limits p [] s a
+pub by_beginning : (P : Spelling → Complaint → Type 0) (limits : Bounds) (input p : List ℕ) (s : Spelling) (rest : List ℕ) (a : Decision) → take limits.bytes input ≡ p → IsSpelled s → depth s ≤ limits.depth → spell s ≡ p ++ rest → DecidesBy P limits p [] s a
     → IsVerdictBy P limits input a
 by_beginning P limits input p s rest a e k l m h =
     let i : IsItem limits.depth s (p ++ rest) = record { spelled = k; within = l; bytes_are = m } in
@@ -28,7 +28,7 @@ by_beginning P limits input p s rest a e k l m h =
     }
 
 -- the verdict, for keys of any kind
-on_beginning : (n : ℕ) (r : Rules) (input p : List ℕ) (s : Spelling) (rest : List ℕ) (a : Answer) → take n input ≡ p → IsSpelled s → depth s ≤ 256 → spell s ≡ p ++ rest → DecidesBy (Complains r 0) (bounds 256 n) p [] s a → IsVerdict (bounds 256 n) r input a
+on_beginning : (n : ℕ) (r : Rules) (input p : List ℕ) (s : Spelling) (rest : List ℕ) (a : Decision) → take n input ≡ p → IsSpelled s → depth s ≤ 256 → spell s ≡ p ++ rest → DecidesBy (Complains r 0) (bounds 256 n) p [] s a → IsVerdict (bounds 256 n) r input a
 on_beginning n r input p s rest a e k l m h = (any_verdict (bounds 256 n) r refl input a).1 (by_beginning (Complains r 0) (bounds 256 n) input p s rest a e k l m h)
 
 -- it is refused for a complaint where each other one ends later, or ends there and is on a key

@@ -12,7 +12,7 @@ ghost use Rattle.cbor_head.specs.Read.{Prefix, prefix, read_head, read};
 ghost use Rattle.cbor_head.specs.Spelling.{Spelling, IsSpelled, IsItem, HoldsOrIndefinite};
 ghost use Rattle.cbor_head.specs.Spelling.{spell, value_of};
 ghost use Rattle.cbor_head.specs.Value.{AreBytes, HasBasicKeys};
-ghost use Rattle.cbor_head.specs.Verdict.{Answer, accepted, HasNoneOf, IsFirstOf, IsVerdictBy, IsVerdict};
+ghost use Rattle.cbor_head.specs.Verdict.{Decision, accepted, HasNoneOf, IsFirstOf, IsVerdictBy, IsVerdict};
 ghost use Rattle.cbor_head.specs.declared.keys.Keys.TheVariants.{Any};
 ghost use Rattle.cbor_head.specs.declared.major.Major.{Major};
 ghost use Rattle.cbor_head.specs.declared.width.Width.{Width};
@@ -91,11 +91,11 @@ pub fn first_complaint_is_one()
 /// An input has one verdict, whichever item is chosen among those that start with its longest
 /// beginning.
 pub fn verdict_is_one()
-    ensures one { (limits : Bounds) (r : Rules) (input : List ℕ) (x y : Answer)
+    ensures one { (limits : Bounds) (r : Rules) (input : List ℕ) (x y : Decision)
         → IsVerdict limits r input x → IsVerdict limits r input y → x ≡ y }
-    ensures each { (limits : Bounds) (r : Rules) (p behind : List ℕ) (s t : Spelling)
+    ensures each { (limits : Bounds) (r : Rules) (p following : List ℕ) (s t : Spelling)
         → StartsWith limits.depth s p → StartsWith limits.depth t p
-        → (x : Answer) → Decides limits r p behind s x → Decides limits r p behind t x }
+        → (x : Decision) → Decides limits r p following s x → Decides limits r p following t x }
 {}
 
 /// Accepted is exactly an item that the first bytes of the input, up to the byte limit, begin with,
@@ -114,7 +114,7 @@ pub fn keys_of_any_kind()
         → limits.keys ≡ Any → IsFirstComplaint limits r s t c ↔ IsFirstOf (Complains r 0 s) t c }
     ensures without { (limits : Bounds) (r : Rules) (s : Spelling) (t : ℕ)
         → limits.keys ≡ Any → IsWithout limits r s t ↔ HasNoneOf (Complains r 0 s) t }
-    ensures verdict { (limits : Bounds) (r : Rules) (input : List ℕ) (x : Answer)
+    ensures verdict { (limits : Bounds) (r : Rules) (input : List ℕ) (x : Decision)
         → limits.keys ≡ Any → IsVerdict limits r input x ↔ IsVerdictBy (Complains r 0) limits input x }
 {}
 

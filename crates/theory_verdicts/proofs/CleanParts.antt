@@ -24,19 +24,19 @@ clean-prefix d ls s t x z rest more levels part taken e c h ends =
     let u = plug_all fs s in
     let p = bytes_before ls ++ x in
     let (spelled_around, deep) = item_along fs s are.left are.path part.spelled (omega (arith, part.within, are.levels, path_length ls)) in
-    let (behind, around) = spell_along fs s in
-    let i : IsItem d u (p ++ (z ++ behind)) = record {
+    let (following, around) = spell_along fs s in
+    let i : IsItem d u (p ++ (z ++ following)) = record {
       spelled = spelled_around;
       within = omega (arith, deep, are.levels);
       bytes_are = around
-          ∙ ap₂ (λ (y w : List ℕ). y ++ (w ++ behind)) (path_bytes ls) part.bytes_are
-          ∙ ap (λ (y : List ℕ). bytes_before ls ++ y) (append_assoc x z behind)
-          ∙ sym (append_assoc (bytes_before ls) x (z ++ behind));
+          ∙ ap₂ (λ (y w : List ℕ). y ++ (w ++ following)) (path_bytes ls) part.bytes_are
+          ∙ ap (λ (y : List ℕ). bytes_before ls ++ y) (append_assoc x z following)
+          ∙ sym (append_assoc (bytes_before ls) x (z ++ following));
     } in
     let whole = whole_longest d t (p ++ rest) more (record { spelled = taken.spelled; within = taken.within; bytes_are = refl }) e in
-    let (k, same, _) = split_prefix p rest (spell t) more e (whole.longest p rest (u, z ++ behind, i) refl) in
+    let (k, same, _) = split_prefix p rest (spell t) more e (whole.longest p rest (u, z ++ following, i) refl) in
     let j : IsItem d t (p ++ k) = record { spelled = taken.spelled; within = taken.within; bytes_are = same } in
-    taken.clean 0 c (same_complaints d u t p (z ++ behind) k i j plain c (omega (arith, ends, length-append (bytes_before ls) x)) (complaint_along fs s plain 0 (length (bytes_before ls)) c (omega (arith, ap length (path_bytes ls))) h))
+    taken.clean 0 c (same_complaints d u t p (z ++ following) k i j plain c (omega (arith, ends, length-append (bytes_before ls) x)) (complaint_along fs s plain 0 (length (bytes_before ls)) c (omega (arith, ap length (path_bytes ls))) h))
 
 -- and one that is complete there has none
 pub clean-within : (d : ℕ) (ls : List Level) (s t : Spelling) (rest more : List ℕ) → AreLevels d ls → IsSpelled s → depth s ≤ d - length ls → IsTaken d t

@@ -15,9 +15,9 @@ use Rattle.theory_verdicts.specs.{Path.Level, Reading.string_major}
 
 -- its first byte, and all that is left of its argument: with zeros for the missing bytes, the head is
 -- complete
-pub cut_argument : (m : Major) (low c : ℕ) (behind : List ℕ) → c ≡ 32 * major_number m + low → 24 ≤ low → low ≤ 27 → AreBytes behind → length behind < 2 ^ (low - 24)
-    → (w : Width) × (n : ℕ) × (more : List ℕ) × Holds w n × ((c ∷ behind) ++ more ≡ head m w n) × (0 < length more)
-cut_argument m low c behind is l h are short = elim (cases_lt low 26) [
+pub cut_argument : (m : Major) (low c : ℕ) (following : List ℕ) → c ≡ 32 * major_number m + low → 24 ≤ low → low ≤ 27 → AreBytes following → length following < 2 ^ (low - 24)
+    → (w : Width) × (n : ℕ) × (more : List ℕ) × Holds w n × ((c ∷ following) ++ more ≡ head m w n) × (0 < length more)
+cut_argument m low c following is l h are short = elim (cases_lt low 26) [
   | inl k ↦ elim (cases_lt low 25) [
     | inl j ↦ by_low 24 One 0 (omega (arith, l, j)) (λ n. refl) (λ n f. f) (λ f. omega (arith, f))
     | inr j ↦ by_low 25 Two 1 (omega (arith, k, j)) (λ n. refl) (λ n f. f) (λ f. omega (arith, f))
@@ -28,30 +28,30 @@ cut_argument m low c behind is l h are short = elim (cases_lt low 26) [
   ]
 ]
   where
-    by_low : (j : ℕ) (w : Width) (k : ℕ) → low ≡ j → ((n : ℕ) → head m w n ≡ (32 * major_number m + j) ∷ bytes_high_first (suc k) n) → ((n : ℕ) → n < 256 ^ suc k → Holds w n) → (length behind < 2 ^ (j - 24) → length behind ≤ k)
-        → (w : Width) × (n : ℕ) × (more : List ℕ) × Holds w n × ((c ∷ behind) ++ more ≡ head m w n) × (0 < length more)
+    by_low : (j : ℕ) (w : Width) (k : ℕ) → low ≡ j → ((n : ℕ) → head m w n ≡ (32 * major_number m + j) ∷ bytes_high_first (suc k) n) → ((n : ℕ) → n < 256 ^ suc k → Holds w n) → (length following < 2 ^ (j - 24) → length following ≤ k)
+        → (w : Width) × (n : ℕ) × (more : List ℕ) × Holds w n × ((c ∷ following) ++ more ≡ head m w n) × (0 < length more)
     by_low j w k e made holds fits =
-        let more : List ℕ = replicate (suc k - length behind) 0 in
-        let size = zero_length (suc k - length behind) in
-        let few : length behind ≤ k = fits (subst (λ (x : ℕ). length behind < 2 ^ (x - 24)) e short) in
+        let more : List ℕ = replicate (suc k - length following) 0 in
+        let size = zero_length (suc k - length following) in
+        let few : length following ≤ k = fits (subst (λ (x : ℕ). length following < 2 ^ (x - 24)) e short) in
         let same : c ≡ 32 * major_number m + j = omega (arith, is, e) in
-        let whole = long-head m w k (32 * major_number m + j) made holds (behind ++ more) (omega (arith, few, length-append behind more, size)) (bytes_join behind more are (zero_bytes (suc k - length behind))) in
-        (w, number 0 (behind ++ more), more, whole.1, ap (λ (x : ℕ). x ∷ (behind ++ more)) same ∙ whole.0, omega (arith, few, size))
+        let whole = long-head m w k (32 * major_number m + j) made holds (following ++ more) (omega (arith, few, length-append following more, size)) (bytes_join following more are (zero_bytes (suc k - length following))) in
+        (w, number 0 (following ++ more), more, whole.1, ap (λ (x : ℕ). x ∷ (following ++ more)) same ∙ whole.0, omega (arith, few, size))
 
 -- of an item
-pub head_cut : (r : Rules) (at d : ℕ) (ls : List Level) (c : ℕ) (behind : List ℕ) → 24 ≤ c % 32 → c % 32 ≤ 27 → (c < 224) ⊎ (c ≡ 0xf8) → (128 ≤ c → c < 224 → length ls < d) → AreBytes behind
-    → length behind < 2 ^ (c % 32 - 24) → IsJudged r at (d - length ls) (c ∷ behind) None
-head_cut r at d ls c behind l h (inl j) space are short =
+pub head_cut : (r : Rules) (at d : ℕ) (ls : List Level) (c : ℕ) (following : List ℕ) → 24 ≤ c % 32 → c % 32 ≤ 27 → (c < 224) ⊎ (c ≡ 0xf8) → (128 ≤ c → c < 224 → length ls < d) → AreBytes following
+    → length following < 2 ^ (c % 32 - 24) → IsJudged r at (d - length ls) (c ∷ following) None
+head_cut r at d ls c following l h (inl j) space are short =
     let left = d - length ls in
     let s = split c (omega (arith, j)) in
     let same : c % 32 ≡ s.low = omega (arith, s.made, s.fits) in
-    let (w, n, more, holds, whole, some) = cut_argument s.major s.low c behind s.made (omega (arith, l, same)) (omega (arith, h, same)) are (subst (λ (x : ℕ). length behind < 2 ^ (x - 24)) same short) in
+    let (w, n, more, holds, whole, some) = cut_argument s.major s.low c following s.made (omega (arith, l, same)) (omega (arith, h, same)) are (subst (λ (x : ℕ). length following < 2 ^ (x - 24)) same short) in
     let takes_in = fits s.major s.low c left s.made s.fits (λ a b. let below : length ls < d = space a b in omega (arith, below)) in
-    long_cut r at left s.major w n (c ∷ behind) more (headed left s.major w n (numbered s.major s.low c s.made j) holds takes_in) whole some
-head_cut r at d ls c behind l h (inr j) space are short =
+    long_cut r at left s.major w n (c ∷ following) more (headed left s.major w n (numbered s.major s.low c s.made j) holds takes_in) whole some
+head_cut r at d ls c following l h (inr j) space are short =
     let low : c % 32 ≡ 24 = omega (arith, j) in
-    let none : behind ≡ [] = nil_from_length behind (omega (arith, subst (λ (x : ℕ). length behind < 2 ^ (x - 24)) low short)) in
-    subst (λ (x : List ℕ). IsJudged r at (d - length ls) x None) (sym (ap (λ (x : ℕ). x ∷ behind) j ∙ ap (λ (xs : List ℕ). 0xf8 ∷ xs) none))
+    let none : following ≡ [] = nil_from_length following (omega (arith, subst (λ (x : ℕ). length following < 2 ^ (x - 24)) low short)) in
+    subst (λ (x : List ℕ). IsJudged r at (d - length ls) x None) (sym (ap (λ (x : ℕ). x ∷ following) j ∙ ap (λ (xs : List ℕ). 0xf8 ∷ xs) none))
     (judged_head r at (d - length ls) (0xf8 ∷ []) (simple 32) (0x20 ∷ []) simple_cut (omega arith))
 
 -- ---- a payload

@@ -4,7 +4,7 @@ use Rattle.cbor_head.specs.Prelude.{head, Spelling, Spellings, SpelledEntries, n
 use Rattle.cbor_head.specs.declared.major.Major.TheVariants.{Array, Map, Tag}
 use Rattle.theory_values.proofs.Agree.{key_end, later_in, later_entries}
 use Rattle.theory_values.proofs.OneFirst.{after_head}
-use Rattle.theory_verdicts.specs.Frame.{Frame, a_member, a_key, a_content, tagged, with_all, with_entries, keys_onto, plug, before, behind, IsFrame, depth_beside, OfPrefixBy, OfKeyAtBy, OfBackBy, OfKeyAt, OfBack}
+use Rattle.theory_verdicts.specs.Frame.{Frame, a_member, a_key, a_content, tagged, with_all, with_entries, keys_onto, plug, before, following, IsFrame, depth_beside, OfPrefixBy, OfKeyAtBy, OfBackBy, OfKeyAt, OfBack}
 
 -- ---- members of two lists
 
@@ -74,7 +74,7 @@ entries_right (entry k v es) fs ks r K at to c e h =
 four : (h a s b c : List ℕ) → (h ++ (a ++ (s ++ b))) ++ c ≡ (h ++ a) ++ (s ++ (b ++ c))
 four h a s b c = append_assoc h (a ++ (s ++ b)) c ∙ ap (λ (x : List ℕ). h ++ x) (append_assoc a (s ++ b) c ∙ ap (λ (x : List ℕ). a ++ x) (append_assoc s b c)) ∙ sym (append_assoc h a (s ++ (b ++ c)))
 
-pub spell_plug : (f : Frame) (s : Spelling) → spell (plug f s) ≡ before f ++ (spell s ++ behind f)
+pub spell_plug : (f : Frame) (s : Spelling) → spell (plug f s) ≡ before f ++ (spell s ++ following f)
 spell_plug (a_member w a b) s =
     ap (λ (n : ℕ). head Array w n ++ spell_all (with_all a (a_spelling s b)) ++ break_of w) (count_with a (a_spelling s b))
     ∙ ap (λ (x : List ℕ). head Array w (spellings_count a + suc (spellings_count b)) ++ x ++ break_of w) (spell_with a (a_spelling s b))

@@ -7,7 +7,7 @@ use Rattle.cbor_head.specs.declared.{order.KeyOrder.KeyOrder, width.Width.Width,
 use Rattle.theory_values.specs.Parts.{an_array, plain as a_plain, a_map as an_open_map, pair, give, closed}
 use Rattle.theory_values.{proofs.Counts.values_count-of, specs.Pairs.HasDistinctBytes, specs.Pairs.AreKeysValid, proofs.Keys.distinct_exactly}
 use Rattle.theory_verdicts.specs.Levels.{settle, IsTaken, AreTaken, ArePairsTaken, Level, a_member, a_key, a_value, some_member, some_key, some_value, tagged, frame, AreLevels, bytes_before}
-use Rattle.theory_verdicts.specs.Given.{StandsAt, opens, IsFull}
+use Rattle.theory_verdicts.specs.Given.{AgreesAt, opens, IsFull}
 use Rattle.theory_verdicts.proofs.Levels.{no-count, spelled-all, within-all, clean-all, taken-more, count-more, pairs-spelled, pairs-within, pairs-more, pair-count-more, pairs-clean, array-spelled, map-spelled, pairs-shorter}
 use Rattle.theory_verdicts.{specs.Place.counted, specs.Place.close, specs.Frame.with_all, specs.Frame.with_entries, proofs.Heads.open_or}
 use Rattle.theory_verdicts.proofs.{Loops.array_bytes-more, Loops.map_bytes-more, Valid.in_range_entries, Valid.valid_of}
@@ -73,7 +73,7 @@ full-tag o d e w n s holds h space = record {
 
 module _ (o : KeyOrder) (d : ℕ) where
   pub settled : (ls : List Level) (s : Spelling) → AreLevels d ls → IsTaken (d - length ls) s → length (bytes_before ls ++ spell s) < 2 ^ 64
-      → StandsAt o d (bytes_before ls ++ spell s) (close (map frame ls)) (give (canonical o (value_of s)) (opens o ls)) (length ls) (settle ls s)
+      → AgreesAt o d (bytes_before ls ++ spell s) (close (map frame ls)) (give (canonical o (value_of s)) (opens o ls)) (length ls) (settle ls s)
   settled [] s h i short = (record { spelled = i.spelled; within = omega (arith, i.within); clean = i.clean }, refl, refl, refl, refl)
   settled (a_member w zero done ∷ ls) s h i short =
       let before = bytes_before ls in

@@ -6,13 +6,13 @@ use Rattle.cbor_head.specs.declared.event.EventKind.TheVariants as kinds
 use Rattle.cbor_head.specs.declared.{width.Width.Width, reason.Refusal.Refusal, event.Event.Event, event.EventKind.EventKind}
 use Rattle.theory_automaton.specs.{Marks.mark_of, Marks.count_of, Trace.a_break}
 use Rattle.cbor_machine.specs.NextEvent.{ItemEventsView, Call, IsNext, IsNextEvent, IsEnd, call}
-use Rattle.cbor_machine.specs.NextKey.{IsBasicKind, IsBehindBasic, IsOtherKey, IsNextOf}
+use Rattle.cbor_machine.specs.NextKey.{IsBasicKind, IsAfterBasic, IsOtherKey, IsNextOf}
 use Rattle.cbor_machine.specs.Machine.{IsComplete}
 use Rattle.theory_verdicts.specs.Kinds.{AsksForKinds, KeepsToKinds, HasBasicPrefix}
 use Rattle.theory_verdicts.specs.Place.{Container, Place, at_item, IsTaking}
 use Rattle.theory_verdicts.proofs.KindBytes.{Begins, basic_mark, mark_begins, keeps_expected}
-use Rattle.theory_verdicts.proofs.RefusedBehind.{basic_first, stopped_within, stopped_other}
-use Rattle.theory_verdicts.specs.{Frame.Frame, Judged.IsJudged, Reading.IsAt, RefusedBehind.IsRefusedBehind}
+use Rattle.theory_verdicts.proofs.RefusedAfter.{basic_first, stopped_within, stopped_other}
+use Rattle.theory_verdicts.specs.{Frame.Frame, Judged.IsJudged, Reading.IsAt, RefusedAfter.IsRefusedAfter}
 use Rattle.theory_verdicts.proofs.{Steps.SameLimits, Steps.stops, KindFrames.IsAround}
 
 -- ---- what was returned
@@ -31,7 +31,7 @@ of_end asked o c is h = go asked (subst (λ (x : Option Event). IsNextOf asked (
     go true n = n
     go false n = n
 
-pub of_refused : (asked : Bool) (f : Refusal) (c : Call) → IsNextOf asked (Err f) c → (IsNext (Err f) c × (asked ≡ true → IsBehindBasic f c)) ⊎ ((asked ≡ true) × IsOtherKey f c)
+pub of_refused : (asked : Bool) (f : Refusal) (c : Call) → IsNextOf asked (Err f) c → (IsNext (Err f) c × (asked ≡ true → IsAfterBasic f c)) ⊎ ((asked ≡ true) × IsOtherKey f c)
 of_refused true f c (inl h) = inl (h.0, λ a. h.1)
 of_refused true f c (inr h) = inr (refl, h)
 of_refused false f c h = inl (h, λ a. absurd (true≢false (sym a)))
@@ -73,7 +73,7 @@ module _ {Key : Type 0} (r : Rules) (b : Bounds) (t : List ℕ) (cs : List Conta
 
   -- no head comes
   pub stopped-expected : (e new : ItemEventsView) (from to : Option (List ℕ)) (asked : Bool) (f : Refusal) → (at : IsAt b e t (at_item cs)) → SameLimits e.machine new.machine → new.machine.taken ≡ f.read → new.machine.taken ≤ new.machine.bytes
-      → (asked ≡ true → AsksForKinds b r × Key) → (AsksForKinds b r → Key → asked ≡ true) → IsNextOf asked (Err f) (call e new from to t at.marks) → ¬ IsComplete e.machine × IsRefusedBehind r b t from to f
+      → (asked ≡ true → AsksForKinds b r × Key) → (AsksForKinds b r → Key → asked ≡ true) → IsNextOf asked (Err f) (call e new from to t at.marks) → ¬ IsComplete e.machine × IsRefusedAfter r b t from to f
   stopped-expected e new from to asked f at same all most so only h =
       let lifted : (p : List ℕ) → IsJudged r (length t) (b.depth - length cs) p None → IsJudged r 0 (b.depth - 0) (t ++ p) None = λ p j. x.lift p None j in
       elim (of_refused asked f (call e new from to t at.marks) h) [

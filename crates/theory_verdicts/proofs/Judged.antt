@@ -5,7 +5,7 @@ use Rattle.cbor_head.specs.Prelude.{Spelling, Spellings, SpelledEntries, no_entr
 use Rattle.cbor_head.specs.declared.width.Width.{Width}
 use Rattle.theory_values.proofs.Agree.{head_of, body, parts, later}
 use Rattle.theory_values.proofs.OneFirst.{bounded, key_last}
-use Rattle.theory_verdicts.specs.Frame.{Frame, a_key, keys_onto, plug, before, behind, IsFrame, depth_beside, OfPrefix, OfKeyAt}
+use Rattle.theory_verdicts.specs.Frame.{Frame, a_key, keys_onto, plug, before, following, IsFrame, depth_beside, OfPrefix, OfKeyAt}
 use Rattle.theory_verdicts.specs.Judged.{IsFinding, IsJudged, Never}
 use Rattle.theory_verdicts.proofs.Frames.{spell_plug, spelled_plug, depth_plug, plug_split, plug_item, back_later, key_at_end}
 use Rattle.theory_verdicts.specs.SoFar.{IsArraySoFar, IsMapSoFar}
@@ -13,9 +13,9 @@ pub use Rattle.theory_automaton.proofs.Beginnings.{zero_item, zeros, zeros_count
 
 -- ---- one container
 
-pub bytes_in : (f : Frame) (s : Spelling) (p rest : List ℕ) → spell s ≡ p ++ rest → spell (plug f s) ≡ (before f ++ p) ++ (rest ++ behind f)
+pub bytes_in : (f : Frame) (s : Spelling) (p rest : List ℕ) → spell s ≡ p ++ rest → spell (plug f s) ≡ (before f ++ p) ++ (rest ++ following f)
 bytes_in f s p rest e =
-    spell_plug f s ∙ ap (λ (x : List ℕ). before f ++ (x ++ behind f)) e ∙ ap (λ (x : List ℕ). before f ++ x) (append_assoc p rest (behind f)) ∙ sym (append_assoc (before f) p (rest ++ behind f))
+    spell_plug f s ∙ ap (λ (x : List ℕ). before f ++ (x ++ following f)) e ∙ ap (λ (x : List ℕ). before f ++ x) (append_assoc p rest (following f)) ∙ sym (append_assoc (before f) p (rest ++ following f))
 
 -- a complaint in a key comes before one on it
 ahead : (a e m n : ℕ) → a + (m - 1) ≤ e → 1 ≤ n → (a < e) ⊎ ((a ≡ e) × (m ≤ n))
@@ -48,9 +48,9 @@ module _ (f : Frame) (r : Rules) (at d : ℕ) (fits : IsFrame f) (flat : depth_b
       let to = at + length (before f) in
       let more = length-append (before f) p in
       let size : length (spell s) ≡ length p + length rest = ap length e ∙ length-append p rest in
-      let whole = ap length (spell_plug f s) ∙ length-append (before f) (spell s ++ behind f) in
+      let whole = ap length (spell_plug f s) ∙ length-append (before f) (spell s ++ following f) in
       let short : to + length p < to + length (spell s) = h.0 in (
-        omega (arith, short, more, whole, length-append (spell s) (behind f)),
+        omega (arith, short, more, whole, length-append (spell s) (following f)),
         λ x g. elim (plug_split f s r (OfKey r.keys) at to x refl g) [
           | inl y ↦ absurd (clean x y)
           | inr (inl y) ↦ omega (arith, h.1 x y, more)
@@ -65,7 +65,7 @@ module _ (f : Frame) (r : Rules) (at d : ℕ) (fits : IsFrame f) (flat : depth_b
       let deep = depth_plug f j.item in
       record {
         item = plug f j.item;
-        rest = j.rest ++ behind f;
+        rest = j.rest ++ following f;
         is = record { spelled = spelled_plug f j.item fits j.is.spelled; within = omega (arith, deep, j.is.within, flat); bytes_are = bytes_in f j.item p j.rest j.is.bytes_are };
         finding = finding_in j.item p j.rest found j.is.bytes_are j.finding;
       }
@@ -80,8 +80,8 @@ module _ (f : Frame) (r : Rules) (at d : ℕ) (fits : IsFrame f) (flat : depth_b
       let end = key_at_end f k r to c o in
       record {
         item = plug f k;
-        rest = behind f;
-        is = record { spelled = spelled_plug f k fits h; within = omega (arith, deep, small, flat); bytes_are = spell_plug f k ∙ sym (append_assoc (before f) (spell k) (behind f)) };
+        rest = following f;
+        is = record { spelled = spelled_plug f k fits h; within = omega (arith, deep, small, flat); bytes_are = spell_plug f k ∙ sym (append_assoc (before f) (spell k) (following f)) };
         finding = record {
           holds = plug_item f k r (OfKey r.keys) at to c refl (inr o);
           ends = omega (arith, end, more);

@@ -11,7 +11,7 @@ use Rattle.theory_automaton.specs.Trace.{Mark, a_head, a_chunk, a_byte, a_break}
 use Rattle.theory_automaton.specs.Automaton as automaton
 use Rattle.theory_automaton.specs.Automaton.{State, at_item as expected_at, in_head, in_simple, run, reached, Next, refuses, goes, reports, take_byte}
 use Rattle.theory_automaton.proofs.Taking.{IsWithin, nothing-taken, IsTakingNext, byte-taken, within-start}
-use Rattle.theory_automaton.proofs.{Arguments.number, Stands.IsString, Refusals.IsTaken, Refusals.taken-follows}
+use Rattle.theory_automaton.proofs.{Arguments.number, Agrees.IsString, Refusals.IsTaken, Refusals.taken-follows}
 use Rattle.cbor_machine.specs.NextEvent.{ItemEventsView}
 use Rattle.theory_verdicts.specs.Kinds.{IsOfOneHead, HasBasicPrefix, AsksForKinds, KeepsToKinds}
 use Rattle.theory_verdicts.specs.Place.{Container, Place, at_item, IsTaking}
@@ -23,17 +23,17 @@ use Rattle.theory_verdicts.{specs.Reading.IsAt, specs.Reading.state_at, proofs.S
 -- ---- bytes of one head
 
 -- the number of bytes of an argument, by the first byte
-abbrev Behind : ℕ → ℕ → Type 0
-Behind b k = 0 < k → (24 ≤ b % 32) × (b % 32 < 28) × (k ≤ 2 ^ (b % 32 - 24))
+abbrev FollowingBytes : ℕ → ℕ → Type 0
+FollowingBytes b k = 0 < k → (24 ≤ b % 32) × (b % 32 < 28) × (k ≤ 2 ^ (b % 32 - 24))
 
 -- they are no more than the head has
-within_wide : (m : Major) (b low k size : ℕ) → 32 * major_number m + low ≡ b → low < 32 → 2 ^ (low - 24) < size → 0 < k → Behind b k → suc k ≤ size
+within_wide : (m : Major) (b low k size : ℕ) → 32 * major_number m + low ≡ b → low < 32 → 2 ^ (low - 24) < size → 0 < k → FollowingBytes b k → suc k ≤ size
 within_wide m b low k size e h s some f =
     let same : b % 32 ≡ low = omega (arith, e, h) in
     let most : k ≤ 2 ^ (low - 24) = subst (λ (j : ℕ). k ≤ 2 ^ (j - 24)) same (f some).2 in
     omega (arith, most, s)
 
-within_head : (m : Major) (w : Width) (n b k : ℕ) (y z : List ℕ) → HoldsOrIndefinite w n → head m w n ++ z ≡ b ∷ y → Behind b k → suc k ≤ length (head m w n)
+within_head : (m : Major) (w : Width) (n b k : ℕ) (y z : List ℕ) → HoldsOrIndefinite w n → head m w n ++ z ≡ b ∷ y → FollowingBytes b k → suc k ≤ length (head m w n)
 within_head m w n b zero y z h e f = length_head m w n
 within_head m Direct n b (suc k) y z h e f = let first : 32 * major_number m + n ≡ b = cc e in absurd (omega (arith, first, h, (f (omega arith)).0))
 within_head m One n b (suc k) y z h e f = within_wide m b 24 (suc k) 2 (cc e) (omega arith) (omega arith) (omega arith) f
@@ -49,12 +49,12 @@ within_first s h b bs z e container one =
     let n = number_is s h b [] (bs ++ z) (append-nil (spell s) ∙ e) in
     within_head (major s) (width s) (count s) b (length bs) (bs ++ z) (body s) (holds_of s h) (sym (parts s) ∙ e) (one (subst (λ (k : ℕ). IsTrue (is_container k)) n container))
 
-pub kinds_behind : (s : Spelling) → IsSpelled s → (x z : List ℕ) → spell s ≡ x ++ z → IsOfOneHead x → (at : ℕ) (c : Complaint) → OfKinds at s c → at + length x < c.end
-kinds_behind s h [] z e one at c o = omega (arith, (of_kind s at c o).later)
-kinds_behind (array w ss) h (b ∷ bs) z e one at c o = omega (arith, within_first (array w ss) h b bs z e refl one, (of_kind (array w ss) at c o).later)
-kinds_behind (a_map w es) h (b ∷ bs) z e one at c o = omega (arith, within_first (a_map w es) h b bs z e refl one, (of_kind (a_map w es) at c o).later)
-kinds_behind (tag w n s) h (b ∷ bs) z e one at c o = omega (arith, within_first (tag w n s) h b bs z e refl one, (of_kind (tag w n s) at c o).later)
-kinds_behind s h (b ∷ bs) z e one at c o = absurd (none_by_form at s c o)
+pub kinds_after : (s : Spelling) → IsSpelled s → (x z : List ℕ) → spell s ≡ x ++ z → IsOfOneHead x → (at : ℕ) (c : Complaint) → OfKinds at s c → at + length x < c.end
+kinds_after s h [] z e one at c o = omega (arith, (of_kind s at c o).later)
+kinds_after (array w ss) h (b ∷ bs) z e one at c o = omega (arith, within_first (array w ss) h b bs z e refl one, (of_kind (array w ss) at c o).later)
+kinds_after (a_map w es) h (b ∷ bs) z e one at c o = omega (arith, within_first (a_map w es) h b bs z e refl one, (of_kind (a_map w es) at c o).later)
+kinds_after (tag w n s) h (b ∷ bs) z e one at c o = omega (arith, within_first (tag w n s) h b bs z e refl one, (of_kind (tag w n s) at c o).later)
+kinds_after s h (b ∷ bs) z e one at c o = absurd (none_by_form at s c o)
 
 -- a prefix of them
 pub one_head_prefix : (x y : List ℕ) → IsOfOneHead (x ++ y) → IsOfOneHead x
@@ -143,7 +143,7 @@ item_basic s (b ∷ bs) z h e some basic = byte_basic s h b [] (bs ++ z) (append
 pub keeps_expected : {left : ℕ} {fs : List Frame} {before : List ℕ} {Expected : Type 0} → (limits : Bounds) (r : Rules) → IsAround limits.depth left fs before Expected → (x : List ℕ) → Begins left x → IsOfOneHead x → (AsksForKinds limits r → Expected → HasBasicPrefix x)
     → KeepsToKinds limits r before → KeepsToKinds limits r (before ++ x)
 keeps_expected limits r around x g one basic keeps =
-    keeps_on limits r around g.item x g.rest g.spelled g.within g.bytes (λ asked expected some. item_basic g.item x g.rest g.spelled g.bytes some (basic asked expected)) (kinds_behind g.item g.spelled x g.rest g.bytes one _) keeps
+    keeps_on limits r around g.item x g.rest g.spelled g.within g.bytes (λ asked expected some. item_basic g.item x g.rest g.spelled g.bytes some (basic asked expected)) (kinds_after g.item g.spelled x g.rest g.bytes one _) keeps
 
 -- what was found of an item is of one that begins so
 pub judged_begins : (r : Rules) (at d : ℕ) (x : List ℕ) (found : Option Complaint) → IsJudged r at d x found → Begins d x
@@ -171,5 +171,5 @@ pub byte_begins : (b : Bounds) (e : ItemEventsView) (t : List ℕ) (cs : List Co
 byte_begins b e t cs c a follows other =
     let q = state_at (at_item cs) in
     let small : c < 256 = (bytes_back t (c ∷ []) (beginning_bytes b.depth (t ++ c ∷ []) follows)).0 in
-    let taken = (taken-follows b.depth t q a.marks c a.stands.stands.are_bytes small (at-run b e t (at_item cs) a)).1 follows in
+    let taken = (taken-follows b.depth t q a.marks c a.agrees.agrees.are_bytes small (at-run b e t (at_item cs) a)).1 follows in
     taken_begins b.depth cs c (take_byte b.depth q c) other taken (byte-taken b.depth q q [] c (within-start b.depth q (clear-at (at_item cs))) small)

@@ -6,7 +6,7 @@ use Rattle.cbor_head.specs.{declared.reason.Reason.TheVariants.KeyKind, Laws.Sta
 use Rattle.theory_values.proofs.KeyKinds.{kind_end, form_count, of_kind, of_kind_in, of_kind_entries}
 use Rattle.theory_values.proofs.KeyKinds.{same_kinds}
 use Rattle.theory_values.proofs.ReadLaws.{length_head, length_spell}
-use Rattle.theory_verdicts.specs.Frame.{Frame, a_member, a_key, a_content, tagged, plug, before, behind, OfPrefixBy, OfKeyAtBy, OfBackBy}
+use Rattle.theory_verdicts.specs.Frame.{Frame, a_member, a_key, a_content, tagged, plug, before, following, OfPrefixBy, OfKeyAtBy, OfBackBy}
 use Rattle.theory_verdicts.specs.Kinds.{IsKeyFrame, IsKeyExpected, plug_all, AsksForKinds, KeepsToKinds}
 use Rattle.theory_verdicts.proofs.Frames.{spell_plug, spelled_plug, depth_plug, plug_split, plug_item}
 use Rattle.theory_verdicts.specs.Reading.{IsMemory, IsReached, IsUndecided, HasCause}
@@ -34,12 +34,12 @@ kind_before (a_content w a k b) at c h =
     ]
 kind_before (tagged w n) at c h = absurd (cc h.0)
 
-kind_behind : (f : Frame) (s : Spelling) (at : ℕ) (c : Complaint) → OfBackBy form OfKind at f s c → at < c.end
-kind_behind (a_member w a b) s at c h = (of_kind_in b at c h).later
-kind_behind (a_key w a v b) s at c (inl h) = omega (arith, (of_kind v at c h).later)
-kind_behind (a_key w a v b) s at c (inr h) = omega (arith, (of_kind_entries b _ _ c h).later)
-kind_behind (a_content w a k b) s at c h = (of_kind_entries b _ at c h).later
-kind_behind (tagged w n) s at c h = absurd h
+kind_after : (f : Frame) (s : Spelling) (at : ℕ) (c : Complaint) → OfBackBy form OfKind at f s c → at < c.end
+kind_after (a_member w a b) s at c h = (of_kind_in b at c h).later
+kind_after (a_key w a v b) s at c (inl h) = omega (arith, (of_kind v at c h).later)
+kind_after (a_key w a v b) s at c (inr h) = omega (arith, (of_kind_entries b _ _ c h).later)
+kind_after (a_content w a k b) s at c h = (of_kind_entries b _ at c h).later
+kind_after (tagged w n) s at c h = absurd h
 
 -- a complaint of the container ends with what comes before the item, is about it as a key, is its own, or ends after it
 kind_split : (f : Frame) (s : Spelling) (at to : ℕ) (c : Complaint) → to ≡ at + length (before f) → OfKinds at (plug f s) c → (c.end ≤ to) ⊎ (IsKeyFrame f × IsOnKey to s c) ⊎ OfKinds to s c ⊎ (to + length (spell s) < c.end)
@@ -47,7 +47,7 @@ kind_split f s at to c e h = elim (plug_split f s form OfKind at to c e h) [
   | inl x ↦ inl (omega (arith, kind_before f at c x, e))
   | inr (inl x) ↦ inr (inr (inl x))
   | inr (inr (inl x)) ↦ inr (inl (on_key f x))
-  | inr (inr (inr x)) ↦ inr (inr (inr (kind_behind f s (to + length (spell s)) c x)))
+  | inr (inr (inr x)) ↦ inr (inr (inr (kind_after f s (to + length (spell s)) c x)))
 ]
   where
     on_key : (f : Frame) → OfKeyAtBy form OfKind to f s c → IsKeyFrame f × IsOnKey to s c
@@ -72,10 +72,10 @@ pub spell_along : (fs : List Frame) (s : Spelling) → (rest : List ℕ) × (spe
 spell_along [] s = ([], sym (append-nil (spell s)))
 spell_along (f ∷ fs) s =
     let r = spell_along fs s in (
-      r.0 ++ behind f,
-      spell_plug f (plug_all fs s) ∙ ap (λ (x : List ℕ). before f ++ (x ++ behind f)) r.1
-          ∙ ap (λ (x : List ℕ). before f ++ x) (append_assoc (before_all fs) (spell s ++ r.0) (behind f) ∙ ap (λ (x : List ℕ). before_all fs ++ x) (append_assoc (spell s) r.0 (behind f)))
-          ∙ sym (append_assoc (before f) (before_all fs) (spell s ++ (r.0 ++ behind f))),
+      r.0 ++ following f,
+      spell_plug f (plug_all fs s) ∙ ap (λ (x : List ℕ). before f ++ (x ++ following f)) r.1
+          ∙ ap (λ (x : List ℕ). before f ++ x) (append_assoc (before_all fs) (spell s ++ r.0) (following f) ∙ ap (λ (x : List ℕ). before_all fs ++ x) (append_assoc (spell s) r.0 (following f)))
+          ∙ sym (append_assoc (before f) (before_all fs) (spell s ++ (r.0 ++ following f))),
     )
 
 pub item_along : (fs : List Frame) (s : Spelling) (d : ℕ) → ArePath d fs → IsSpelled s → depth s ≤ d → IsSpelled (plug_all fs s) × (depth (plug_all fs s) ≤ length fs + d)

@@ -36,7 +36,7 @@ pub mod Placed
 pub mod Places
 pub mod PlainPaths
 pub mod Reasons
-pub mod RefusedBehind
+pub mod RefusedAfter
 pub mod RefusedChunks
 pub mod RefusedHere
 pub mod Scalars

@@ -4,7 +4,7 @@ use Rattle.cbor_head.specs.Prelude.{IsHead, head, Bounds, IsIntegerOrText, Rules
 use Rattle.cbor_head.specs.declared.{major.Major.Major, major.Major.TheVariants.Simple, width.Width.Width}
 use Rattle.theory_values.proofs.{Alike.not_break, KeyKinds.byte_basic}
 use Rattle.theory_verdicts.specs.Kinds.{KeepsToKinds, IsKeyFrame, IsKeyExpected, IsOfOneHead}
-use Rattle.theory_verdicts.proofs.KindBytes.{Begins, begins_by, kinds_behind, of_headed}
+use Rattle.theory_verdicts.proofs.KindBytes.{Begins, begins_by, kinds_after, of_headed}
 use Rattle.theory_verdicts.proofs.KindFrames.{expected_last, IsAround, keeps_on}
 use Rattle.theory_verdicts.specs.Path.{Level, tagged, bytes_before, AreClean, IsKeyExpectedIn}
 use Rattle.theory_verdicts.proofs.PathLevels.{frame_of, before_frame, frame_fits, frame_flat}
@@ -88,7 +88,7 @@ module _ (limits : Bounds) (r : Rules) (ls : List Level) (clean : AreClean r lim
   -- after bytes of one head
   pub keeps_begun : (x : List ℕ) → Begins (limits.depth - length ls) x → IsOfOneHead x → KeepsHere limits r ls x → KeepsToKinds limits r (bytes_before ls ++ x)
   keeps_begun x g one kept =
-      keeps_on limits r (around_clean r limits.depth ls clean) g.item x g.rest g.spelled g.within g.bytes (λ asked expected some. kind_of_prefix g.item x g.rest g.spelled g.bytes (kept.here asked expected) some) (kinds_behind g.item g.spelled x g.rest g.bytes one (length (bytes_before ls))) kept.before
+      keeps_on limits r (around_clean r limits.depth ls clean) g.item x g.rest g.spelled g.within g.bytes (λ asked expected some. kind_of_prefix g.item x g.rest g.spelled g.bytes (kept.here asked expected) some) (kinds_after g.item g.spelled x g.rest g.bytes one (length (bytes_before ls))) kept.before
 
   -- after an item without keys
   pub keeps_item : (s : Spelling) → IsSpelled s → depth s ≤ limits.depth - length ls → ((at : ℕ) (c : Complaint) → OfKinds at s c → ⊥) → KeepsHere limits r ls (spell s) → KeepsToKinds limits r (bytes_before ls ++ spell s)

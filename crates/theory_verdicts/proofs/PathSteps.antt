@@ -35,7 +35,7 @@ module _ (r : Rules) (at d : ℕ) (w : Width) (n : ℕ) where
   map_more done k v h i l none =
       let to = at + length (map_bytes w n done) in
       let there : to ≡ at + length (head Map w n) + length (spell_entries done) = omega (arith, length-append (head Map w n) (spell_entries done)) in
-      let behind : to + length (spell k) ≡ at + length (map_bytes w n done ++ spell k) = omega (arith, length-append (map_bytes w n done) (spell k)) in
+      let following : to + length (spell k) ≡ at + length (map_bytes w n done ++ spell k) = omega (arith, length-append (map_bytes w n done) (spell k)) in
       record {
         holds = h.so_far.holds;
         spelled = spelled_entries_with done (entry k v no_entries) h.so_far.spelled (h.spelled, i, tt);
@@ -45,7 +45,7 @@ module _ (r : Rules) (at d : ℕ) (w : Width) (n : ℕ) where
           | inl x ↦ h.so_far.clean c x
           | inr (inl x) ↦ h.clean c x
           | inr (inr (inl x)) ↦ h.fits c x
-          | inr (inr (inr (inl x))) ↦ none c (subst (λ (m : ℕ). Complains r m v c) behind x)
+          | inr (inr (inr (inl x))) ↦ none c (subst (λ (m : ℕ). Complains r m v c) following x)
           | inr (inr (inr (inr x))) ↦ absurd x
         ];
       }

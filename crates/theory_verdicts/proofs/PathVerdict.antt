@@ -6,9 +6,9 @@ use Rattle.cbor_head.specs.declared.reason.Reason.TheVariants.{Truncated, TooLon
 use Rattle.cbor_head.specs.declared.reason.Refusal.{Refusal}
 use Rattle.theory_values.proofs.Beginnings.{item_decides}
 use Rattle.theory_automaton.specs.Reasons.{IsFormReason as IsByteReason}
-use Rattle.theory_automaton.proofs.Longest.{stands_longest}
+use Rattle.theory_automaton.proofs.Longest.{longest_if_refused}
 use Rattle.theory_verdicts.proofs.Decisions.{whole_beside, complaint_decides, break_decides, kind_decides}
-use Rattle.theory_verdicts.specs.Stop.{HasComplaint, HasBadByte, EndsWithin, HasOtherKey, IsStopped, IsAnswered}
+use Rattle.theory_verdicts.specs.Stop.{HasComplaint, HasBadByte, EndsWithin, HasOtherKey, IsStopped, IsReportedAs}
 use Rattle.theory_verdicts.{specs.Refusals.IsComplaintReason, specs.Kinds.KeepsToKinds, proofs.Reasons.byte-reason, proofs.Reasons.complaint-reason}
 use Rattle.theory_verdicts.{proofs.SpelledBytes.longest_always, specs.Path.HasEnded}
 
@@ -40,7 +40,7 @@ module _ (r : Rules) (limits : Bounds) (input : List ℕ) where
 
   pub bad_byte_stops : (f : Refusal) → HasBadByte r limits (take limits.bytes input) f → IsVerdict limits r input (refused f)
   bad_byte_stops f h =
-      let g = stands_longest limits.depth h.p h.byte h.rest (h.judged.item, h.judged.rest, h.judged.is) h.cannot_follow in
+      let g = longest_if_refused limits.depth h.p h.byte h.rest (h.judged.item, h.judged.rest, h.judged.is) h.cannot_follow in
       let longest : IsLongestBeginning limits.depth (take limits.bytes input) h.p = record { beginning = g.beginning; rest = h.byte ∷ h.rest; splits = h.splits; longest = λ x y i e. g.longest x y i (sym h.splits ∙ e) } in
       break_decides limits r input h.p f h.judged h.keeps longest (f.reason, h.reason, h.is)
 
@@ -59,7 +59,7 @@ module _ (r : Rules) (limits : Bounds) (input : List ℕ) where
     pub limit_stops : length (take limits.bytes input) ≡ limits.bytes → IsVerdict limits r input (refused (refusal TooLong limits.bytes limits.bytes))
     limit_stops e = break_decides limits r input (take limits.bytes input) (refusal TooLong limits.bytes limits.bytes) h.judged h.keeps longest (inl (e, refl))
 
-  pub stopped : (f : Refusal) → IsStopped r limits (take limits.bytes input) f → (g : Refusal) → IsAnswered limits.bytes (take limits.bytes input) f g → IsVerdict limits r input (refused g)
+  pub stopped : (f : Refusal) → IsStopped r limits (take limits.bytes input) f → (g : Refusal) → IsReportedAs limits.bytes (take limits.bytes input) f g → IsVerdict limits r input (refused g)
   stopped f (inl h) g a = subst (λ (x : Refusal). IsVerdict limits r input (refused x)) (sym (a.same (λ e. absurd (complaint_differs r limits (take limits.bytes input) f h e)))) (complaint_stops f h)
   stopped f (inr (inl h)) g a = subst (λ (x : Refusal). IsVerdict limits r input (refused x)) (sym (a.same (λ e. absurd (bad_byte_differs r limits (take limits.bytes input) f h e)))) (bad_byte_stops f h)
   stopped f (inr (inr (inr h))) g a = subst (λ (x : Refusal). IsVerdict limits r input (refused x)) (sym (a.same (λ e. absurd (other_key_differs r limits (take limits.bytes input) f h e)))) (other_key_stops f h)

@@ -21,7 +21,7 @@ use Rattle.cbor_machine.specs.{State.state_of, State.is_in_payload, declared.pos
 use Rattle.theory_verdicts.specs.Place.{Container, Place, in_payload, done as at_end, close_string, payload}
 use Rattle.theory_verdicts.specs.Reading.{state_at, IsAt, IsFormRefusal, IsMemory, ReadsPayload, StopsPayload}
 use Rattle.theory_verdicts.proofs.Places.{place_of, place-back, payload-at, clear-at}
-use Rattle.theory_verdicts.proofs.Steps.{expected-by, Stops, SameLimits, stands-reached, at-reached, reached-as, next-at, place_in, since}
+use Rattle.theory_verdicts.proofs.Steps.{expected-by, Stops, SameLimits, agrees-reached, at-reached, reached-as, next-at, place_in, since}
 use Rattle.theory_verdicts.proofs.{Scalars.at-as, Undecided.is-part}
 
 -- ---- a part of a payload
@@ -80,9 +80,9 @@ no-byte : (d : ℕ) (fs : List automaton.Frame) (cs : List ℕ) (u : State) → 
 no-byte d (automaton.counted zero ∷ fs) cs u h = no-byte d fs cs u h
 no-byte d _ cs u h = h
 
-no-byte-behind : (d : ℕ) (chunk : Bool) (m : Major) (fs : List automaton.Frame) (cs : List ℕ) (u : State) → taking.IsTaking d (automaton.close_string chunk m fs) a_byte cs u → ⊥
-no-byte-behind d true m fs cs u h = h
-no-byte-behind d false m fs cs u h = no-byte d fs cs u h
+no-byte-following : (d : ℕ) (chunk : Bool) (m : Major) (fs : List automaton.Frame) (cs : List ℕ) (u : State) → taking.IsTaking d (automaton.close_string chunk m fs) a_byte cs u → ⊥
+no-byte-following d true m fs cs u h = h
+no-byte-following d false m fs cs u h = no-byte d fs cs u h
 
 -- bytes that are reported as part of a payload are its next bytes
 part : (d : ℕ) (chunk : Bool) (m : Major) (fs : List automaton.Frame) (n : ℕ) (bs : List ℕ) (u : State) → AreBytes bs → run d (automaton.payload chunk m n fs) bs ≡ reached u (replicate (length bs) a_byte)
@@ -94,7 +94,7 @@ part d chunk m fs n [] u b e =
 part d chunk m fs zero (c ∷ cs) u b e =
     let q = automaton.close_string chunk m fs in
     let f = first-mark d (c ∷ cs) q q u [] a_byte (replicate (length cs) a_byte) (within-start d q (close_string-clear chunk m fs)) b e in
-    absurd (no-byte-behind d chunk m fs f.0 f.1 f.2)
+    absurd (no-byte-following d chunk m fs f.0 f.1 f.2)
 part d chunk m fs (suc n) (c ∷ cs) u b e =
     let rest = part d chunk m fs n cs u b.1 ((reports-first a_byte a_byte (run d (automaton.payload chunk m n fs) cs) u (replicate (length cs) a_byte) (sym (payload-byte d chunk m n fs c cs) ∙ e)).1) in
     let fits : length cs ≤ n = rest.0 in
@@ -121,8 +121,8 @@ module _ (b : Bounds) (chunk : Bool) (m : Major) (fs : List Container) (t : List
     taken-part : (length x.bytes ≤ left) × (state_of new.machine.inner.position new.machine.inner.frames ≡ state_at (payload chunk m (left - length x.bytes) fs))
     taken-part =
         let u = state_of new.machine.inner.position new.machine.inner.frames in
-        let ran = since b e new.machine (t ++ h.p) x.bytes (payload chunk m left fs) (marks_of ev.width ev.kind) h.at (same.depth ∙ h.at.depth) x.stands.stands.inner.ran ∙ ap (λ (ms : List Mark). reached u ms) bytes-of.marks in
-        let k = part b.depth chunk m fs left x.bytes u (bytes_back (t ++ h.p) x.bytes x.stands.stands.are_bytes)
+        let ran = since b e new.machine (t ++ h.p) x.bytes (payload chunk m left fs) (marks_of ev.width ev.kind) h.at (same.depth ∙ h.at.depth) x.agrees.agrees.inner.ran ∙ ap (λ (ms : List Mark). reached u ms) bytes-of.marks in
+        let k = part b.depth chunk m fs left x.bytes u (bytes_back (t ++ h.p) x.bytes x.agrees.agrees.are_bytes)
         (ap (λ (s : State). run b.depth s x.bytes) (payload-at chunk m left fs) ∙ ran) in
         (k.0, k.1 ∙ payload-at chunk m (left - length x.bytes) fs)
 
@@ -139,11 +139,11 @@ module _ (b : Bounds) (chunk : Bool) (m : Major) (fs : List Container) (t : List
           p = h.p ++ x.bytes;
           consumed = Consumes-trans from now to h.p x.bytes h.consumed x.consumed;
           count = omega (arith, h.count, size, taken-part.0, length-append h.p x.bytes);
-          are_bytes = bytes_join h.p x.bytes h.are_bytes (bytes_back (t ++ h.p) x.bytes x.stands.stands.are_bytes);
+          are_bytes = bytes_join h.p x.bytes h.are_bytes (bytes_back (t ++ h.p) x.bytes x.agrees.agrees.are_bytes);
           grows = g ∙ ap (λ (u : List ℕ). u ++ new.piece) h.grows ∙ append_assoc old h.p new.piece ∙ ap (λ (u : List ℕ). old ++ (h.p ++ u)) bytes-of.same;
           at = at-as b new ((t ++ h.p) ++ x.bytes) (t ++ (h.p ++ x.bytes)) (place_in new) (payload chunk m (left - length new.piece) fs) (append_assoc t h.p x.bytes)
               (ap place_of taken-part.1 ∙ place-back (payload chunk m (left - length x.bytes) fs) ∙ ap (λ (j : ℕ). payload chunk m (left - j) fs) (sym size))
-              (next-at b e new (t ++ h.p) ((t ++ h.p) ++ x.bytes) (payload chunk m left fs) (h.at.marks ++ marks_of ev.width ev.kind) h.at same live x.stands);
+              (next-at b e new (t ++ h.p) ((t ++ h.p) ++ x.bytes) (payload chunk m left fs) (h.at.marks ++ marks_of ev.width ev.kind) h.at same live x.agrees);
         }
 
     -- no memory for it
@@ -153,13 +153,13 @@ module _ (b : Bounds) (chunk : Bool) (m : Major) (fs : List Container) (t : List
         record {
           bytes = h.p ++ x.bytes;
           consumed = Consumes-trans from now to h.p x.bytes h.consumed x.consumed;
-          read = g ∙ x.stands.stands.taken ∙ ap length (append_assoc t h.p x.bytes);
+          read = g ∙ x.agrees.agrees.taken ∙ ap length (append_assoc t h.p x.bytes);
           why = inl (
             i,
             reached-as b ((t ++ h.p) ++ x.bytes) (t ++ (h.p ++ x.bytes)) (append_assoc t h.p x.bytes)
-                (stands-reached b new.machine ((t ++ h.p) ++ x.bytes) (h.at.marks ++ marks_of ev.width ev.kind) (same.depth ∙ h.at.depth) (same.bytes ∙ h.at.bytes) x.stands.stands),
+                (agrees-reached b new.machine ((t ++ h.p) ++ x.bytes) (h.at.marks ++ marks_of ev.width ev.kind) (same.depth ∙ h.at.depth) (same.bytes ∙ h.at.bytes) x.agrees.agrees),
             is-part n (h.p ++ x.bytes) (omega (arith, size, bytes-of.some)) (omega (arith, size, taken-part.0, h.count))
-                (bytes_join h.p x.bytes h.are_bytes (bytes_back (t ++ h.p) x.bytes x.stands.stands.are_bytes)),
+                (bytes_join h.p x.bytes h.are_bytes (bytes_back (t ++ h.p) x.bytes x.agrees.agrees.are_bytes)),
           );
         }
 
@@ -185,13 +185,13 @@ module _ (b : Bounds) (chunk : Bool) (m : Major) (fs : List Container) (t : List
     where
       go : (left : ℕ) → 0 < left → IsWithin b.depth (state_at (payload chunk m left fs)) s.cut.begun s.cut.p → s.cut.p ≡ []
       go zero k w = absurd (omega arith)
-      go (suc j) k w = behind s.cut.begun w
+      go (suc j) k w = following s.cut.begun w
         where
-          behind : (u : State) → IsWithin b.depth (state_at (in_payload chunk m j fs)) u s.cut.p → s.cut.p ≡ []
-          behind (automaton.in_head false l w i acc gs) taking = absurd (cc taking.0)
-          behind (automaton.in_head true l w i acc gs) taking = absurd (cc taking.0)
-          behind (automaton.in_simple gs) taking = absurd (cc taking.0)
-          behind _ taking = taking.1
+          following : (u : State) → IsWithin b.depth (state_at (in_payload chunk m j fs)) u s.cut.p → s.cut.p ≡ []
+          following (automaton.in_head false l w i acc gs) taking = absurd (cc taking.0)
+          following (automaton.in_head true l w i acc gs) taking = absurd (cc taking.0)
+          following (automaton.in_simple gs) taking = absurd (cc taking.0)
+          following _ taking = taking.1
 
 -- all of it has come
 pub all-come : (b : Bounds) (chunk : Bool) (m : Major) (fs : List Container) (t : List ℕ) (left : ℕ) (old grown : List ℕ) (from now : Option (List ℕ)) (e : ItemEventsView) (n : ℕ)
@@ -216,24 +216,24 @@ payload-stops b t n text from to f s = record {
 }
 
 module _ (b : Bounds) (q : Place) (t : List ℕ) (n : ℕ) (old grown : List ℕ) (from to : Option (List ℕ)) (new : ItemEventsView) (reads : ReadsPayload b q t n old grown from to new) where
-  pub behind-old : drop (length old) grown ≡ reads.bytes
-  behind-old = ap (drop (length old)) reads.grows ∙ drop-append_seam old reads.bytes
+  pub following-old : drop (length old) grown ≡ reads.bytes
+  following-old = ap (drop (length old)) reads.grows ∙ drop-append_seam old reads.bytes
 
   pub grown-length : length old ≤ length grown
   grown-length = omega (arith, ap length reads.grows, length-append old reads.bytes)
 
   pub chunk-is-text : (xs : List ℕ) → xs ≡ drop (length old) grown → IsUtf8 xs → IsUtf8 reads.bytes
-  chunk-is-text xs e h = subst IsUtf8 (e ∙ behind-old) h
+  chunk-is-text xs e h = subst IsUtf8 (e ∙ following-old) h
 
   pub chunk-no-text : (xs : List ℕ) (text : Bool) (f : Refusal) → xs ≡ drop (length old) grown → ¬ IsUtf8 xs → text ≡ true → f ≡ refusal InvalidText (length t + utf8_valid_len xs) new.machine.taken → StopsPayload b t n text from to f
   chunk-no-text xs text f e h is_text is =
-      let same : xs ≡ reads.bytes = e ∙ behind-old in
-      let taken : new.machine.taken ≡ length t + length reads.bytes = reads.at.stands.stands.taken ∙ length-append t reads.bytes in
+      let same : xs ≡ reads.bytes = e ∙ following-old in
+      let taken : new.machine.taken ≡ length t + length reads.bytes = reads.at.agrees.agrees.taken ∙ length-append t reads.bytes in
       let reported : f ≡ refusal InvalidText (length t + utf8_valid_len reads.bytes) (length t + length reads.bytes) =
       is ∙ ap (λ (ys : List ℕ). refusal InvalidText (length t + utf8_valid_len ys) new.machine.taken) same ∙ ap (refusal InvalidText (length t + utf8_valid_len reads.bytes)) taken in
       record {
         bytes = reads.bytes;
         consumed = reads.consumed;
-        read = ap (λ (x : Refusal). x.read) is ∙ reads.at.stands.stands.taken;
+        read = ap (λ (x : Refusal). x.read) is ∙ reads.at.agrees.agrees.taken;
         why = inr (inr (is_text, record { count = reads.count; are_bytes = reads.are_bytes; no_text = λ u. h (subst IsUtf8 (sym same) u); is = reported; within = (at-reached b new (t ++ reads.bytes) q reads.at).within }));
       }

@@ -12,8 +12,8 @@ use Rattle.theory_automaton.proofs.Beginnings.{onwards, run-append, reporting_al
 use Rattle.theory_automaton.proofs.Forward.{reporting_all, payload-byte, head-taken, item_starts, chunk_starts, simple-taken}
 use Rattle.theory_automaton.proofs.Taking.{IsClear, first-mark, reports-first, within-start, mark-taken}
 use Rattle.theory_automaton.specs.Marks.{mark_of, marks_of, times}
-use Rattle.theory_automaton.{specs.Bytes.IsEventBytes, proofs.Runs.once-marks, proofs.Stands.IsString}
-use Rattle.cbor_machine.specs.NextEvent.{Call, StandsBetween, IsNextEvent, IsExpected}
+use Rattle.theory_automaton.{specs.Bytes.IsEventBytes, proofs.Runs.once-marks, proofs.Agrees.IsString}
+use Rattle.cbor_machine.specs.NextEvent.{Call, AgreesBetween, IsNextEvent, IsExpected}
 use Rattle.cbor_machine.specs.{State.state_of, Machine.IsComplete, MachineView.MachineView}
 use Rattle.cbor_machine.proofs.NextEvents.{whole-clear, run-rest}
 use Rattle.theory_verdicts.specs.Place.{Container, counted, indefinite_array, indefinite_map, Place, at_item, in_payload, in_chunks, done, close, expect, payload, Follows, Opens, Ends, IsTaking, IsPlaced, begins, leads_on, LeadsOn, open_at}
@@ -108,13 +108,13 @@ byte-taken : (d : ℕ) (chunk : Bool) (k : Major) (n : ℕ) (cs : List Container
 byte-taken d chunk k zero cs c = ap (λ (s : State). reached s (a_byte ∷ [])) (string-at chunk k cs)
 byte-taken d chunk k (suc n) cs c = refl
 
-sane-behind : (chunk : Bool) (k : Major) (n : ℕ) (cs : List Container) → IsSane (in_payload chunk k n cs) → IsSane (payload chunk k n cs)
-sane-behind true k n cs i = sane-chunk k n cs i
-sane-behind false k n cs i = sane-payload k n cs
+sane-following : (chunk : Bool) (k : Major) (n : ℕ) (cs : List Container) → IsSane (in_payload chunk k n cs) → IsSane (payload chunk k n cs)
+sane-following true k n cs i = sane-chunk k n cs i
+sane-following false k n cs i = sane-payload k n cs
 
 a-byte : (d : ℕ) (chunk : Bool) (k : Major) (n : ℕ) (cs : List Container) (bs : List ℕ) (q : Place) → IsSane (in_payload chunk k n cs) → length bs ≡ 1 → q ≡ payload chunk k n cs → Leads d (in_payload chunk k n cs) a_byte bs q
 a-byte d chunk k n cs [] q i size f = absurd (omega (arith, size))
-a-byte d chunk k n cs (c ∷ []) q i size f = record { ran = byte-taken d chunk k n cs c ∙ ap (λ (p : Place). reached (state_at p) (a_byte ∷ [])) (sym f); sane = subst IsSane (sym f) (sane-behind chunk k n cs i) }
+a-byte d chunk k n cs (c ∷ []) q i size f = record { ran = byte-taken d chunk k n cs c ∙ ap (λ (p : Place). reached (state_at p) (a_byte ∷ [])) (sym f); sane = subst IsSane (sym f) (sane-following chunk k n cs i) }
 a-byte d chunk k n cs (c ∷ e ∷ bs) q i size f = absurd (omega (arith, size))
 
 by-bytes : (d : ℕ) (p : Place) (m : Mark) (bs cs : List ℕ) (q : Place) → bs ≡ cs → Leads d p m cs q → Leads d p m bs q
@@ -133,15 +133,15 @@ taking-leads d _ _ bs q i h = absurd h
 
 -- ---- and from the first byte on
 
-pub record Stands (d : ℕ) (t : List ℕ) (ms : List Mark) (p : Place) : Type 0 where
+pub record Agrees (d : ℕ) (t : List ℕ) (ms : List Mark) (p : Place) : Type 0 where
   pub ran : run d automaton.start t ≡ reached (state_at p) ms
   sane : IsSane p
 
-pub placed-stands : (d : ℕ) (t : List ℕ) (ms : List Mark) (p : Place) → IsPlaced d t ms p → Stands d t ms p
+pub placed-agrees : (d : ℕ) (t : List ℕ) (ms : List Mark) (p : Place) → IsPlaced d t ms p → Agrees d t ms p
 unfolding onwards
-placed-stands d _ _ _ begins = record { ran = refl; sane = tt }
-placed-stands d _ _ _ (leads_on u bs ns m p q h k) =
-    let s = placed-stands d u ns p h in
+placed-agrees d _ _ _ begins = record { ran = refl; sane = tt }
+placed-agrees d _ _ _ (leads_on u bs ns m p q h k) =
+    let s = placed-agrees d u ns p h in
     let l = taking-leads d p m bs q s.sane k in
     record {
       ran = run-append d u bs automaton.start ∙ ap (λ (o : Outcome). onwards o (λ (v : State). run d v bs)) s.ran ∙ ap (reporting_all ns) l.ran ∙ reporting_all-reached ns (m ∷ []) (state_at q);
@@ -191,15 +191,15 @@ reported-by : (reported : List Mark) (w : Width) (kind : EventKind) (bs : List �
 reported-by reported w (kinds.Piece n) bs h = by_bytes (ap (λ (j : ℕ). replicate j a_byte) (sym h.1)) (λ x. x)
 reported-by reported w _ bs h = once refl
 
-pub event-leads : (e : Event) (c : Call) (p : Place) → StandsBetween c.old c.taken c.reported → IsPlaced c.old.depth c.taken c.reported p → c.new.depth ≡ c.old.depth → (n : IsNextEvent e c) → LeadsOn e c n.bytes p
+pub event-leads : (e : Event) (c : Call) (p : Place) → AgreesBetween c.old c.taken c.reported → IsPlaced c.old.depth c.taken c.reported p → c.new.depth ≡ c.old.depth → (n : IsNextEvent e c) → LeadsOn e c n.bytes p
 event-leads e c p s h same n =
     let d = c.old.depth in
     let u = state_of c.new.inner.position c.new.inner.frames in
-    let here = placed-stands d c.taken c.reported p h in
-    let bytes = bytes_back c.taken n.bytes n.stands.stands.are_bytes in
-    let all : run d automaton.start (c.taken ++ n.bytes) ≡ reached u (c.reported ++ marks_of e.width e.kind) = ap (λ (k : ℕ). run k automaton.start (c.taken ++ n.bytes)) (sym same) ∙ n.stands.stands.inner.ran in
+    let here = placed-agrees d c.taken c.reported p h in
+    let bytes = bytes_back c.taken n.bytes n.agrees.agrees.are_bytes in
+    let all : run d automaton.start (c.taken ++ n.bytes) ≡ reached u (c.reported ++ marks_of e.width e.kind) = ap (λ (k : ℕ). run k automaton.start (c.taken ++ n.bytes)) (sym same) ∙ n.agrees.agrees.inner.ran in
     let ran : run d (state_at p) n.bytes ≡ reached u (marks_of e.width e.kind) = run-rest d c.taken n.bytes (state_at p) u c.reported (marks_of e.width e.kind) here.ran all in
-    let clear = whole-clear d (c.taken ++ n.bytes) u (c.reported ++ marks_of e.width e.kind) all n.stands.whole in
+    let clear = whole-clear d (c.taken ++ n.bytes) u (c.reported ++ marks_of e.width e.kind) all n.agrees.whole in
     go (reported-by c.reported e.width e.kind n.bytes n.are) bytes ran clear
   where
     go : Reported e.kind e.width n.bytes → AreBytes n.bytes → run c.old.depth (state_at p) n.bytes ≡ reached (state_of c.new.inner.position c.new.inner.frames) (marks_of e.width e.kind) → IsClear (state_of c.new.inner.position c.new.inner.frames) → LeadsOn e c n.bytes p
@@ -226,9 +226,9 @@ event-leads e c p s h same n =
 
 -- ---- what the machine shows there
 
-module _ (m : MachineView) (t : List ℕ) (ms : List Mark) (p : Place) (s : StandsBetween m t ms) (h : IsPlaced m.depth t ms p) where
+module _ (m : MachineView) (t : List ℕ) (ms : List Mark) (p : Place) (s : AgreesBetween m t ms) (h : IsPlaced m.depth t ms p) where
   state-is : state_of m.inner.position m.inner.frames ≡ state_at p
-  state-is = cc (sym s.stands.inner.ran ∙ (placed-stands m.depth t ms p h).ran)
+  state-is = cc (sym s.agrees.inner.ran ∙ (placed-agrees m.depth t ms p h).ran)
 
   pub open-there : m.open_count ≡ length (open_at p)
   open-there = open_levels.open-there m t ms p s state-is

@@ -32,7 +32,7 @@ byte-form TooLong h = absurd h
 byte-form _ h = h
 
 -- a form error
-pub breaks-form : (limits : Bounds) (p behind : List ℕ) (f : Refusal) → IsFormError limits p behind f → IsFormReason f.reason
+pub breaks-form : (limits : Bounds) (p following : List ℕ) (f : Refusal) → IsFormError limits p following f → IsFormReason f.reason
 breaks-form limits p [] f (inl h) = subst (λ (x : Refusal). IsFormReason x.reason) (sym h.1) tt
 breaks-form limits p [] f (inr h) = subst (λ (x : Refusal). IsFormReason x.reason) (sym h.1) tt
 breaks-form limits p (c ∷ cs) f h = subst (λ (x : Refusal). IsFormReason x.reason) (sym h.2) (byte-form h.0 (byte-reason limits.depth p c h.0 h.1))

@@ -79,13 +79,13 @@ beginning_bytes d p b = bytes_prefix p b.1 (subst AreBytes b.2.bytes_are (joined
 -- its bytes, up to a number that is none
 record BytesAtStart (b : List ℕ) : Type 0 where
   prefix : List ℕ
-  behind : List ℕ
-  splits : b ≡ prefix ++ behind
+  following : List ℕ
+  splits : b ≡ prefix ++ following
   are_bytes : AreBytes prefix
   most : (q r : List ℕ) → AreBytes q → b ≡ q ++ r → length q ≤ length prefix
 
 bytes_at_start : (b : List ℕ) → BytesAtStart b
-bytes_at_start [] = record { prefix = []; behind = []; splits = refl; are_bytes = tt; most = λ q r h e. shorter q r e }
+bytes_at_start [] = record { prefix = []; following = []; splits = refl; are_bytes = tt; most = λ q r h e. shorter q r e }
   where
     shorter : (q r : List ℕ) → [] ≡ q ++ r → length q ≤ 0
     shorter [] r e = omega arith
@@ -93,8 +93,8 @@ bytes_at_start [] = record { prefix = []; behind = []; splits = refl; are_bytes 
 bytes_at_start (c ∷ cs) = elim (cases_lt c 256) [
   | inl l ↦
       let k = bytes_at_start cs in
-      record { prefix = c ∷ k.prefix; behind = k.behind; splits = ap (λ (xs : List ℕ). c ∷ xs) k.splits; are_bytes = (l, k.are_bytes); most = λ q r h e. longer k q r h e }
-  | inr l ↦ record { prefix = []; behind = c ∷ cs; splits = refl; are_bytes = tt; most = λ q r h e. none l q r h e }
+      record { prefix = c ∷ k.prefix; following = k.following; splits = ap (λ (xs : List ℕ). c ∷ xs) k.splits; are_bytes = (l, k.are_bytes); most = λ q r h e. longer k q r h e }
+  | inr l ↦ record { prefix = []; following = c ∷ cs; splits = refl; are_bytes = tt; most = λ q r h e. none l q r h e }
 ]
   where
     longer : (k : BytesAtStart cs) (q r : List ℕ) → AreBytes q → c ∷ cs ≡ q ++ r → length q ≤ suc (length k.prefix)
@@ -118,10 +118,10 @@ longest_always d b =
       found.0,
       record {
         beginning = g.beginning;
-        rest = g.rest ++ k.behind;
-        splits = k.splits ∙ ap (λ (xs : List ℕ). xs ++ k.behind) g.splits ∙ append_assoc found.0 g.rest k.behind;
+        rest = g.rest ++ k.following;
+        splits = k.splits ∙ ap (λ (xs : List ℕ). xs ++ k.following) g.splits ∙ append_assoc found.0 g.rest k.following;
         longest = λ q r i e.
-            let (m, f, h) = split_prefix q r k.prefix k.behind (sym e ∙ k.splits) (k.most q r (beginning_bytes d q i) e) in
+            let (m, f, h) = split_prefix q r k.prefix k.following (sym e ∙ k.splits) (k.most q r (beginning_bytes d q i) e) in
             g.longest q m i f;
       },
     )

@@ -13,9 +13,9 @@ use Rattle.theory_automaton.specs.Marks.{mark_of, marks_of, times}
 use Rattle.theory_automaton.proofs.{Runs.once-marks, Taking.IsClear, Taking.mark-taken}
 use Rattle.cbor_machine.specs.declared.frame.Frame as frames
 use Rattle.cbor_machine.specs.declared.position.Position.TheVariants as positions
-use Rattle.cbor_machine.specs.Machine.{KeepsLimits, StandsFor, before}
+use Rattle.cbor_machine.specs.Machine.{KeepsLimits, Represents, before}
 use Rattle.cbor_machine.specs.NextEvent as item_events
-use Rattle.cbor_machine.specs.NextEvent.{ItemEventsView, StandsBetween, IsNextEvent, IsCut, IsTooLong, HasFormError, IsNext, call}
+use Rattle.cbor_machine.specs.NextEvent.{ItemEventsView, AgreesBetween, IsNextEvent, IsCut, IsTooLong, HasFormError, IsNext, call}
 use Rattle.cbor_machine.specs.{State.state_of, State.is_in_payload, declared.position.Position.Position, MachineView.MachineView}
 use Rattle.cbor_machine.proofs.{Positions.position-done, NextEvents.whole-clear, NextEvents.run-rest}
 use Rattle.theory_verdicts.specs.Place.{Place, at_item, in_payload, in_chunks, done, IsTaking}
@@ -30,44 +30,44 @@ pub record SameLimits (old new : MachineView) : Type 0 where
 -- ---- the position of the events
 
 pub at-run : (b : Bounds) (e : ItemEventsView) (t : List ℕ) (q : Place) → (a : IsAt b e t q) → run b.depth start t ≡ reached (state_at q) a.marks
-at-run b e t q a = ap (λ (d : ℕ). run d start t) (sym a.depth) ∙ a.stands.stands.inner.ran ∙ ap (λ (u : State). reached u a.marks) a.state
+at-run b e t q a = ap (λ (d : ℕ). run d start t) (sym a.depth) ∙ a.agrees.agrees.inner.ran ∙ ap (λ (u : State). reached u a.marks) a.state
 
 -- the same bytes lead to one position
 pub same-place : (b : Bounds) (e new : ItemEventsView) (t : List ℕ) (p q : Place) → IsAt b e t p → IsAt b new t q → p ≡ q
 same-place b e new t p q h k = one-place p q (cc (sym (at-run b e t p h) ∙ at-run b new t q k))
 
-pub same-marks : (m : MachineView) (t : List ℕ) (ms ns : List Mark) → StandsBetween m t ms → StandsBetween m t ns → ms ≡ ns
+pub same-marks : (m : MachineView) (t : List ℕ) (ms ns : List Mark) → AgreesBetween m t ms → AgreesBetween m t ns → ms ≡ ns
 same-marks m t ms ns h k =
-    let e : reached (state_of m.inner.position m.inner.frames) ms ≡ reached (state_of m.inner.position m.inner.frames) ns = sym h.stands.inner.ran ∙ k.stands.inner.ran in
+    let e : reached (state_of m.inner.position m.inner.frames) ms ≡ reached (state_of m.inner.position m.inner.frames) ns = sym h.agrees.inner.ran ∙ k.agrees.inner.ran in
     cc e
 
-pub stands-reached : (b : Bounds) (m : MachineView) (t : List ℕ) (ms : List Mark) → m.depth ≡ b.depth → m.bytes ≡ b.bytes → StandsFor m t ms → IsReached b t
-stands-reached b m t ms e f s = record {
+pub agrees-reached : (b : Bounds) (m : MachineView) (t : List ℕ) (ms : List Mark) → m.depth ≡ b.depth → m.bytes ≡ b.bytes → Represents m t ms → IsReached b t
+agrees-reached b m t ms e f s = record {
   begins = subst (λ (d : ℕ). IsBeginning d t) e s.beginning;
   within = omega (arith, s.taken, s.limited, f);
 }
 
 pub at-reached : (b : Bounds) (e : ItemEventsView) (t : List ℕ) (q : Place) → IsAt b e t q → IsReached b t
-at-reached b e t q a = stands-reached b e.machine t a.marks a.depth a.bytes a.stands.stands
+at-reached b e t q a = agrees-reached b e.machine t a.marks a.depth a.bytes a.agrees.agrees
 
 pub reached-as : (b : Bounds) (all whole : List ℕ) → all ≡ whole → IsReached b all → IsReached b whole
 reached-as b all whole e h = subst (IsReached b) e h
 
 -- where the next event leads
-next-clear : (new : MachineView) (u : List ℕ) (ms : List Mark) → StandsBetween new u ms → IsClear (state_of new.inner.position new.inner.frames)
-next-clear new u ms s = whole-clear new.depth u (state_of new.inner.position new.inner.frames) ms s.stands.inner.ran s.whole
+next-clear : (new : MachineView) (u : List ℕ) (ms : List Mark) → AgreesBetween new u ms → IsClear (state_of new.inner.position new.inner.frames)
+next-clear new u ms s = whole-clear new.depth u (state_of new.inner.position new.inner.frames) ms s.agrees.inner.ran s.whole
 
 abbrev pub place_in : ItemEventsView → Place
 place_in e = place_of (state_of e.machine.inner.position e.machine.inner.frames)
 
-pub next-at : (b : Bounds) (old new : ItemEventsView) (t u : List ℕ) (q : Place) (ms : List Mark) → IsAt b old t q → SameLimits old.machine new.machine → new.refusal ≡ None → StandsBetween new.machine u ms → IsAt b new u (place_in new)
+pub next-at : (b : Bounds) (old new : ItemEventsView) (t u : List ℕ) (q : Place) (ms : List Mark) → IsAt b old t q → SameLimits old.machine new.machine → new.refusal ≡ None → AgreesBetween new.machine u ms → IsAt b new u (place_in new)
 next-at b old new t u q ms a same live s = record {
   live = live;
   limits = a.limits;
   depth = same.depth ∙ a.depth;
   bytes = same.bytes ∙ a.bytes;
   marks = ms;
-  stands = s;
+  agrees = s;
   state = sym (state-back (state_of new.machine.inner.position new.machine.inner.frames) (next-clear new.machine u ms s));
 }
 
@@ -75,7 +75,7 @@ next-at b old new t u q ms a same live s = record {
 pub farther : (b : Bounds) (e new : ItemEventsView) (t u : List ℕ) (q p : Place) → IsAt b e t q → IsAt b new u p → length t < length u
     → new.machine.bytes - new.machine.taken < e.machine.bytes - e.machine.taken
 farther b e new t u q p a z h =
-    omega (arith, a.stands.stands.taken, z.stands.stands.taken, z.stands.stands.limited, h, a.bytes, z.bytes)
+    omega (arith, a.agrees.agrees.taken, z.agrees.agrees.taken, z.agrees.agrees.limited, h, a.bytes, z.bytes)
 
 -- what a machine ran since
 pub since : (b : Bounds) (old : ItemEventsView) (new : MachineView) (t bs : List ℕ) (q : Place) (ns : List Mark) → (a : IsAt b old t q) → new.depth ≡ b.depth
@@ -95,7 +95,7 @@ once _ fs q _ e h d = refl
 
 -- which event is expected, by the inner state
 pub expected-by : (b : Bounds) (e : ItemEventsView) (t : List ℕ) (q : Place) (kind : EventKind) → IsAt b e t q → item_events.IsExpected e.machine.in_payload kind → item_events.IsExpected (is_in_payload e.machine.inner.position) kind
-expected-by b e t q kind a d = subst (λ (x : Bool). item_events.IsExpected x kind) a.stands.stands.inner.shown.in_payload d
+expected-by b e t q kind a d = subst (λ (x : Bool). item_events.IsExpected x kind) a.agrees.agrees.inner.shown.in_payload d
 
 -- a head's one mark
 pub head-taken : (b : Bounds) (old new : ItemEventsView) (t : List ℕ) (q : Place) (ev : Event) (from to : Option (List ℕ)) → IsHeadExpected q → (a : IsAt b old t q)
@@ -104,10 +104,10 @@ pub head-taken : (b : Bounds) (old new : ItemEventsView) (t : List ℕ) (q : Pla
 head-taken b old new t q ev from to expected a n same =
     let one = once-marks ev.width ev.kind (once old.machine.inner.position old.machine.inner.frames q ev.kind a.state expected (expected-by b old t q ev.kind a n.expected)) in
     let u = state_of new.machine.inner.position new.machine.inner.frames in
-    let ran = since b old new.machine t n.bytes q (marks_of ev.width ev.kind) a (same.depth ∙ a.depth) n.stands.stands.inner.ran in
+    let ran = since b old new.machine t n.bytes q (marks_of ev.width ev.kind) a (same.depth ∙ a.depth) n.agrees.agrees.inner.ran in
     taking-at b.depth q (mark_of ev.width ev.kind) n.bytes u (
-    mark-taken b.depth (state_at q) u n.bytes (mark_of ev.width ev.kind) (clear-at q) (bytes_back t n.bytes n.stands.stands.are_bytes) (ran ∙ ap (λ (ms : List Mark). reached u ms) one)
-    (next-clear new.machine (t ++ n.bytes) (a.marks ++ marks_of ev.width ev.kind) n.stands)
+    mark-taken b.depth (state_at q) u n.bytes (mark_of ev.width ev.kind) (clear-at q) (bytes_back t n.bytes n.agrees.agrees.are_bytes) (ran ∙ ap (λ (ms : List Mark). reached u ms) one)
+    (next-clear new.machine (t ++ n.bytes) (a.marks ++ marks_of ev.width ev.kind) n.agrees)
     )
 
 -- ---- the head's complaint
@@ -142,7 +142,7 @@ next-head r b old new t q ev from to expected a n same live fine = record {
   taking = head-taken b old new t q ev from to expected a n same;
   clean = λ c h. let f = fault_of q (mark_of ev.width ev.kind) r (length t) c h in fine f.0 f.1;
   proper = n.are.0;
-  at = next-at b old new t (t ++ n.bytes) q (a.marks ++ marks_of ev.width ev.kind) a same live n.stands;
+  at = next-at b old new t (t ++ n.bytes) q (a.marks ++ marks_of ev.width ev.kind) a same live n.agrees;
 }
 
 -- ---- a refusal
@@ -168,10 +168,10 @@ module _ (b : Bounds) (old new : ItemEventsView) (t : List ℕ) (q : Place) (fro
   most = same.bytes ∙ a.bytes
 
   -- where it reported nothing
-  silent : (m : MachineView) (bs : List ℕ) → m.depth ≡ now.depth → StandsFor m (t ++ bs) a.marks → run b.depth (state_at q) bs ≡ reached (state_of m.inner.position m.inner.frames) []
+  silent : (m : MachineView) (bs : List ℕ) → m.depth ≡ now.depth → Represents m (t ++ bs) a.marks → run b.depth (state_at q) bs ≡ reached (state_of m.inner.position m.inner.frames) []
   silent m bs e s = since b old m t bs q [] a (e ∙ deep) (s.inner.ran ∙ ap (λ (ms : List Mark). reached (state_of m.inner.position m.inner.frames) ms) (sym (append-nil a.marks)))
 
-  cut-at : (m : MachineView) (p last bytes : List ℕ) → m.depth ≡ now.depth → StandsFor m (t ++ p) a.marks → bytes ≡ p ++ last → f.place ≡ length (t ++ p) → IsFormRefusal b (t ++ bytes) to f → IsCutHead b q t bytes to f
+  cut-at : (m : MachineView) (p last bytes : List ℕ) → m.depth ≡ now.depth → Represents m (t ++ p) a.marks → bytes ≡ p ++ last → f.place ≡ length (t ++ p) → IsFormRefusal b (t ++ bytes) to f → IsCutHead b q t bytes to f
   cut-at m p last bytes e s splits place why = record {
     p = p;
     last = last;
@@ -191,7 +191,7 @@ module _ (b : Bounds) (old new : ItemEventsView) (t : List ℕ) (q : Place) (fro
         bytes = c.bytes;
         consumed = c.consumed;
         read = read;
-        cut = cut-at now c.bytes [] c.bytes refl c.stands (sym (append-nil c.bytes)) place
+        cut = cut-at now c.bytes [] c.bytes refl c.agrees (sym (append-nil c.bytes)) place
             (inr (verdict-within b now.depth now.bytes (t ++ c.bytes) _ deep most c.verdict, place ∙ sym read, c.reason));
       }
 
@@ -201,7 +201,7 @@ module _ (b : Bounds) (old new : ItemEventsView) (t : List ℕ) (q : Place) (fro
         bytes = c.bytes;
         consumed = c.consumed;
         read = ap (λ (x : Refusal). x.read) c.is ∙ sym c.full;
-        cut = cut-at (before now (length (t ++ c.bytes))) c.bytes [] c.bytes refl c.stands (sym (append-nil c.bytes)) (ap (λ (x : Refusal). x.place) c.is ∙ sym c.full)
+        cut = cut-at (before now (length (t ++ c.bytes))) c.bytes [] c.bytes refl c.agrees (sym (append-nil c.bytes)) (ap (λ (x : Refusal). x.place) c.is ∙ sym c.full)
             (inl (λ more. verdict-within b now.depth now.bytes ((t ++ c.bytes) ++ more) f deep most (c.verdict more)));
       }
 
@@ -212,7 +212,7 @@ module _ (b : Bounds) (old new : ItemEventsView) (t : List ℕ) (q : Place) (fro
         bytes = c.bytes ++ c.byte ∷ [];
         consumed = c.consumed;
         read = ap (λ (x : Refusal). x.read) c.is ∙ sym (ap length all ∙ length-append (t ++ c.bytes) (c.byte ∷ []));
-        cut = cut-at (before now (length (t ++ c.bytes))) c.bytes (c.byte ∷ []) (c.bytes ++ c.byte ∷ []) refl c.stands refl (ap (λ (x : Refusal). x.place) c.is)
+        cut = cut-at (before now (length (t ++ c.bytes))) c.bytes (c.byte ∷ []) (c.bytes ++ c.byte ∷ []) refl c.agrees refl (ap (λ (x : Refusal). x.place) c.is)
             (inl (λ more. subst (λ (xs : List ℕ). IsVerdict b form (xs ++ more) (refused f)) (sym all) (verdict-within b now.depth now.bytes (((t ++ c.bytes) ++ c.byte ∷ []) ++ more) f deep most (c.verdict more))));
       }
 
@@ -233,4 +233,4 @@ module _ (b : Bounds) (old new : ItemEventsView) (t : List ℕ) (q : Place) (fro
   pub not-ended : (o : Option Event) → o ≡ None → (q ≡ done → ⊥) → IsNext (Ok o) (call old new from to t a.marks) → ⊥
   not-ended o e f n =
       let end = subst (λ (x : Option Event). IsNext (Ok x) (call old new from to t a.marks)) e n in
-      f (one-place q done (sym a.state ∙ ap (λ (p : Position). state_of p old.machine.inner.frames) (position-done old.machine.inner.position (sym a.stands.stands.inner.shown.complete ∙ end.complete.0))))
+      f (one-place q done (sym a.state ∙ ap (λ (p : Position). state_of p old.machine.inner.frames) (position-done old.machine.inner.position (sym a.agrees.agrees.inner.shown.complete ∙ end.complete.0))))

@@ -6,8 +6,8 @@ use Rattle.cbor_head.specs.Prelude.{Bounds, AreBounds, Value, Spelling, spell, I
 use Rattle.cbor_head.specs.declared.reason.Reason.TheVariants.{Truncated, Read, Memory, KeyKind}
 use Rattle.cbor_head.specs.{Laws.StartsWith, Laws.IsWithout, declared.reason.Reason.Reason, declared.reason.Refusal.Refusal}
 use Rattle.theory_values.proofs.{Agree.split_prefix, Beginnings.item_decides, Complaints.complaints_reported}
-use Rattle.theory_automaton.proofs.Runs.{take-behind}
-use Rattle.cbor_machine.{proofs.Form.never, specs.NextEvent.ItemEventsView, specs.NextEvent.StandsBetween}
+use Rattle.theory_automaton.proofs.Runs.{take-following}
+use Rattle.cbor_machine.{proofs.Form.never, specs.NextEvent.ItemEventsView, specs.NextEvent.AgreesBetween}
 use Rattle.theory_verdicts.specs.Readers.{IsReadAs, IsUnread, of_verdict, of_reader, of_memory, Loses}
 use Rattle.theory_verdicts.specs.Reading.{IsReached, IsMemory, IsCause, HasCause, Extends, ReadsItem, IsUndecided, StopsItem, IsPrefixUnread, IsAt}
 use Rattle.theory_verdicts.proofs.Decisions.{whole_beside, complaint_decides, break_decides, kind_decides}
@@ -56,7 +56,7 @@ lost input bs from to e h = go to (subst (λ (f : Option (List ℕ)). Consumes f
 -- ---- a form error
 
 -- its offset is the length of the longest beginning
-break_place : (limits : Bounds) (p behind : List ℕ) (f : Refusal) → IsFormError limits p behind f → f.place ≡ length p
+break_place : (limits : Bounds) (p following : List ℕ) (f : Refusal) → IsFormError limits p following f → f.place ≡ length p
 break_place limits p [] f (inl b) = ap (λ (x : Refusal). x.place) b.1 ∙ sym b.0
 break_place limits p [] f (inr b) = ap (λ (x : Refusal). x.place) b.1
 break_place limits p (c ∷ cs) f b = ap (λ (x : Refusal). x.place) b.2
@@ -96,14 +96,14 @@ module _ (r : Rules) (b : Bounds) (input : List ℕ) (from to : Option (List ℕ
     whole = record { spelled = i.spelled; within = omega (arith, i.within); bytes_are = refl }
 
     fits : length (spell i.item) ≤ b.bytes
-    fits = omega (arith, i.at.stands.stands.taken, i.at.stands.stands.limited, i.at.bytes)
+    fits = omega (arith, i.at.agrees.agrees.taken, i.at.agrees.agrees.limited, i.at.bytes)
 
     pub item-read : IsReadAs b r input v (length (spell i.item))
     item-read = record {
       read = record {
         item = i.item;
         verdict = item_decides (IsComplaint b r) b input (take (b.bytes - length (spell i.item)) gone.rest) i.item whole
-            (ap (take b.bytes) gone.splits ∙ take-behind b.bytes (spell i.item) gone.rest fits)
+            (ap (take b.bytes) gone.splits ∙ take-following b.bytes (spell i.item) gone.rest fits)
             (whole_beside b r i.item whole keeps i.clean);
         size = refl;
       };
@@ -124,7 +124,7 @@ module _ (r : Rules) (b : Bounds) (input : List ℕ) (from to : Option (List ℕ
 
     -- the bytes taken are within the longest beginning, if they are one
     short : IsReached b s.bytes → (p : List ℕ) → IsLongestBeginning b.depth (take b.bytes input) p → f.read ≤ length p
-    short h p g = omega (arith, read-is, g.longest s.bytes (take (b.bytes - length s.bytes) left.rest) h.begins (ap (take b.bytes) left.splits ∙ take-behind b.bytes s.bytes left.rest h.within))
+    short h p g = omega (arith, read-is, g.longest s.bytes (take (b.bytes - length s.bytes) left.rest) h.begins (ap (take b.bytes) left.splits ∙ take-following b.bytes s.bytes left.rest h.within))
 
     level : b.depth - 0 ≡ b.depth
     level = omega arith
@@ -135,7 +135,7 @@ module _ (r : Rules) (b : Bounds) (input : List ℕ) (from to : Option (List ℕ
     -- if all but the last byte read decide nothing against the item, no complaint ends before
     free : IsReached b s.bytes → (u : IsUndecided r b [] [] s.bytes) → KeepsToKinds b r u.p → (p : List ℕ) → IsLongestBeginning b.depth (take b.bytes input) p → IsFreeBefore b r p f.read
     free h u keeps p g =
-        let prefix : take b.bytes input ≡ s.bytes ++ take (b.bytes - length s.bytes) left.rest = ap (take b.bytes) left.splits ∙ take-behind b.bytes s.bytes left.rest h.within in
+        let prefix : take b.bytes input ≡ s.bytes ++ take (b.bytes - length s.bytes) left.rest = ap (take b.bytes) left.splits ∙ take-following b.bytes s.bytes left.rest h.within in
         let (k, is, other) = split_prefix s.bytes (take (b.bytes - length s.bytes) left.rest) p g.rest (sym prefix ∙ g.splits) (omega (arith, read-is, short h p g)) in
         let item : IsItem b.depth u.judged.item (u.p ++ u.judged.rest) = subst (λ (m : ℕ). IsItem m u.judged.item (u.p ++ u.judged.rest)) level u.judged.is in
         prefix-free b r u.p p (u.last ++ k) u.judged.item u.judged.rest f.read item (is ∙ ap (λ (v : List ℕ). v ++ k) u.splits ∙ append_assoc u.p u.last k)
@@ -162,7 +162,7 @@ module _ (r : Rules) (b : Bounds) (input : List ℕ) (from to : Option (List ℕ
           let g = longest_always b.depth (take b.bytes input) in
           of_verdict (subst (λ (x : Refusal). IsVerdict b r input (refused x)) (sym is)
           (complaint_decides b r input p (take (b.bytes - length p) (last ++ left.rest)) g.0 c j keeps
-          (ap (take b.bytes) input-is ∙ take-behind b.bytes p (last ++ left.rest) (omega (arith, l, shorter))) g.1))
+          (ap (take b.bytes) input-is ∙ take-following b.bytes p (last ++ left.rest) (omega (arith, l, shorter))) g.1))
 
       -- the input ends, or the reader failed, within an item
       cut : IsJudged r 0 b.depth p None → f.place ≡ length p → IsVerdict b form s.bytes (refused (refusal Truncated (length s.bytes) (length s.bytes))) → f.place ≡ f.read
@@ -207,7 +207,7 @@ module _ (r : Rules) (b : Bounds) (input : List ℕ) (from to : Option (List ℕ
       let prefix = p ++ x ∷ [] in
       let gone = lost input prefix from to known taken in
       let g = longest_always b.depth (take b.bytes input) in
-      of_verdict (kind_decides b r input p (take (b.bytes - length prefix) gone.rest) g.0 x s asked j keeps begins o (ap (take b.bytes) gone.splits ∙ take-behind b.bytes prefix gone.rest l) g.1)
+      of_verdict (kind_decides b r input p (take (b.bytes - length prefix) gone.rest) g.0 x s asked j keeps begins o (ap (take b.bytes) gone.splits ∙ take-following b.bytes prefix gone.rest l) g.1)
 
 -- ---- what the reader lost
 
@@ -222,8 +222,8 @@ loses bs k (Some xs) to e h =
 -- ---- each reader is reported what was found, and of its known bytes
 
 -- before the first byte
-pub starts-at : (b : Bounds) (e : ItemEventsView) → AreBounds b → e.refusal ≡ None → (e.machine.depth ≡ b.depth) × (e.machine.bytes ≡ b.bytes) → StandsBetween e.machine [] [] → IsAt b e [] (at_item [])
-starts-at b e l live limits s = record { live = live; limits = l; depth = limits.0; bytes = limits.1; marks = []; stands = s; state = sym (cc (s.stands.inner.ran)) }
+pub starts-at : (b : Bounds) (e : ItemEventsView) → AreBounds b → e.refusal ≡ None → (e.machine.depth ≡ b.depth) × (e.machine.bytes ≡ b.bytes) → AgreesBetween e.machine [] [] → IsAt b e [] (at_item [])
+starts-at b e l live limits s = record { live = live; limits = l; depth = limits.0; bytes = limits.1; marks = []; agrees = s; state = sym (cc (s.agrees.inner.ran)) }
 
 pub known : (from : Option (List ℕ)) (P : List ℕ → Type 0) → ((input : List ℕ) → from ≡ Some input → P input) → IfSome from P
 known None P f = tt

@@ -4,7 +4,7 @@ use Rattle.std.proofs.lemmas.Str.{utf8_valid_len_le}
 use Rattle.cbor_head.specs.Prelude.{Bounds, Spelling, Rules, Complaint, Complains, IsComplaint, IsFormError, IsVerdict, refused, IsLongestBeginning}
 use Rattle.cbor_head.specs.declared.reason.Refusal.{Refusal}
 use Rattle.theory_values.proofs.{KeyKinds.of_kind, Reasons.each_complaint}
-use Rattle.theory_verdicts.specs.Refusals.{StandsWithin}
+use Rattle.theory_verdicts.specs.Refusals.{IsWithinInput}
 
 -- ---- complaints
 
@@ -25,7 +25,7 @@ module _ (limits : Bounds) (input : List ℕ) where
       let small = length-take limits.bytes input in
       (omega (arith, size, small), omega (arith, size, small))
 
-  break_within : (p behind : List ℕ) (f : Refusal) → length p + length behind ≤ limits.bytes → length p + length behind ≤ length input → IsFormError limits p behind f → StandsWithin limits.bytes input f
+  break_within : (p following : List ℕ) (f : Refusal) → length p + length following ≤ limits.bytes → length p + length following ≤ length input → IsFormError limits p following f → IsWithinInput limits.bytes input f
   break_within p [] f l m (inl b) =
       let place = ap (λ (f : Refusal). f.place) b.1 in let read = ap (λ (f : Refusal). f.read) b.1 in
       record { by_read = omega (arith, place, read); in_limit = omega (arith, read); in_input = omega (arith, read, b.0, m) }
@@ -36,7 +36,7 @@ module _ (limits : Bounds) (input : List ℕ) where
       let place = ap (λ (f : Refusal). f.place) b.2 in let read = ap (λ (f : Refusal). f.read) b.2 in
       record { by_read = omega (arith, place, read); in_limit = omega (arith, read, l); in_input = omega (arith, read, m) }
 
-  pub verdict_within : (r : Rules) (f : Refusal) → IsVerdict limits r input (refused f) → StandsWithin limits.bytes input f
+  pub verdict_within : (r : Rules) (f : Refusal) → IsVerdict limits r input (refused f) → IsWithinInput limits.bytes input f
   verdict_within r f v =
       let w = longest_within v.p v.longest in
       elim v.decides [

@@ -41,11 +41,11 @@ before (a_content w a k b) = head Map w (entries_count a + suc (entries_count b)
 before (tagged w n) = head Tag w n
 
 -- the bytes after the item
-abbrev pub behind : Frame → List ℕ
-behind (a_member w a b) = spell_all b ++ break_of w
-behind (a_key w a v b) = spell v ++ spell_entries b ++ break_of w
-behind (a_content w a k b) = spell_entries b ++ break_of w
-behind (tagged w n) = []
+abbrev pub following : Frame → List ℕ
+following (a_member w a b) = spell_all b ++ break_of w
+following (a_key w a v b) = spell v ++ spell_entries b ++ break_of w
+following (a_content w a k b) = spell_entries b ++ break_of w
+following (tagged w n) = []
 
 abbrev pub IsFrame : Frame → Type 0
 IsFrame (a_member w a b) = HoldsOrIndefinite w (spellings_count a + suc (spellings_count b)) × AreSpelled a × AreSpelled b

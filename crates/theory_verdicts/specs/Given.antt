@@ -52,11 +52,11 @@ pub record IsFull (o : KeyOrder) (d : ℕ) (c : Open) (s : Spelling) : Type 0 wh
   pub container : (other : Open) (os : List Open) → IsInContainer (c ∷ other ∷ os)
 
 -- after the bytes t, at this position, with these items open in a builder, within this number of containers
-abbrev pub StandsAt : KeyOrder → ℕ → List ℕ → Place → List Open → ℕ → ParseState → Type 0
-StandsAt o d t q os height (item_expected ls) =
+abbrev pub AgreesAt : KeyOrder → ℕ → List ℕ → Place → List Open → ℕ → ParseState → Type 0
+AgreesAt o d t q os height (item_expected ls) =
     AreLevels d ls × (t ≡ bytes_before ls) × (q ≡ at_item (map frame ls)) × (os ≡ opens o ls) × (height ≡ length ls)
-StandsAt o d t q os height (item_full ls s) =
+AgreesAt o d t q os height (item_full ls s) =
     AreLevels d ls × (t ≡ bytes_before ls ++ spell s) × (q ≡ close (map frame ls))
     × ((c : Open) × IsFull o (d - length ls) c s × (os ≡ c ∷ opens o ls)) × (height ≡ suc (length ls))
-StandsAt o d t q os height (item_whole s) =
+AgreesAt o d t q os height (item_whole s) =
     IsTaken d s × (t ≡ spell s) × (q ≡ at_end) × (os ≡ a_plain (canonical o (value_of s)) ∷ []) × (height ≡ 0)

@@ -11,7 +11,7 @@ pub mod Place
 pub mod Readers
 pub mod Reading
 pub mod Refusals
-pub mod RefusedBehind
+pub mod RefusedAfter
 pub mod RefusedHere
 pub mod SoFar
 pub mod Stop

@@ -13,7 +13,7 @@ use Rattle.theory_automaton.specs.Trace.{Mark, a_head, a_chunk}
 use Rattle.theory_automaton.specs.Automaton as automaton
 use Rattle.theory_automaton.specs.Automaton.{State, run, reached}
 use Rattle.theory_automaton.specs.Marks.{mark_of, IsProper}
-use Rattle.cbor_machine.specs.{State.state_of, NextEvent.ItemEventsView, NextEvent.StandsBetween}
+use Rattle.cbor_machine.specs.{State.state_of, NextEvent.ItemEventsView, NextEvent.AgreesBetween}
 use Rattle.theory_verdicts.specs.Place.{Container, Place, at_item, in_payload, in_chunks, done, close, close_string, payload, IsTaking}
 use Rattle.theory_verdicts.specs.{Judged.IsJudged, Readers.IsUnread, Readers.Loses, Refusals.IsReaderReason}
 
@@ -34,7 +34,7 @@ pub record IsAt (b : Bounds) (e : ItemEventsView) (t : List ℕ) (q : Place) : T
   pub depth : e.machine.depth ≡ b.depth
   pub bytes : e.machine.bytes ≡ b.bytes
   pub marks : List Mark
-  pub stands : StandsBetween e.machine t marks
+  pub agrees : AgreesBetween e.machine t marks
   pub state : state_of e.machine.inner.position e.machine.inner.frames ≡ state_at q
 
 -- The bytes x were consumed before, and y now: what the reader lost is the part of y after x.
@@ -225,8 +225,8 @@ pub record StopsPayload (b : Bounds) (t : List ℕ) (n : ℕ) (text : Bool) (fro
   pub read : f.read ≡ length (t ++ bytes)
   pub why : (IsMemory f × IsReached b (t ++ bytes) × IsPart n bytes) ⊎ IsCutPayload b t n bytes to f ⊎ ((text ≡ true) × IsNoText b t n bytes f)
 
-abbrev pub AnswersPayload : Bool → ItemEventsView → ℕ → List ℕ → List ℕ → Option (List ℕ) → Option (List ℕ) → ItemEventsView → Result (Unit {0}) Refusal → Type 0
-AnswersPayload text e n old grown from to new result =
+abbrev pub ReturnsPayload : Bool → ItemEventsView → ℕ → List ℕ → List ℕ → Option (List ℕ) → Option (List ℕ) → ItemEventsView → Result (Unit {0}) Refusal → Type 0
+ReturnsPayload text e n old grown from to new result =
     (b : Bounds) (chunk : Bool) (m : Major) (fs : List Container) (t : List ℕ) → IsAt b e t (payload chunk m n fs)
     → MatchResult result (λ u. (reads : ReadsPayload b (close_string chunk m fs) t n old grown from to new) × (text ≡ true → IsUtf8 reads.bytes)) (λ f. StopsPayload b t n text from to f)
 

@@ -35,7 +35,7 @@ abbrev pub IsFreeBefore : Bounds → Rules → List ℕ → ℕ → Type 0
 IsFreeBefore limits r p place = (s : Spelling) (c : Complaint) → StartsWith limits.depth s p → IsComplaint limits r s c → place ≤ c.end
 
 -- a refusal's offset is at most the number of bytes read, which is at most the limit and the length of the input
-pub record StandsWithin (n : ℕ) (input : List ℕ) (f : Refusal) : Type 0 where
+pub record IsWithinInput (n : ℕ) (input : List ℕ) (f : Refusal) : Type 0 where
   pub by_read : f.place ≤ f.read
   pub in_limit : f.read ≤ n
   pub in_input : f.read ≤ length input

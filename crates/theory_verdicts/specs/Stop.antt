@@ -62,6 +62,6 @@ abbrev pub IsRefused : orders.KeyOrder → Bounds → List ℕ → Refusal → T
 IsRefused o limits b f = IsStopped (strict o) limits b f ⊎ RepeatsKey o limits b f
 
 -- if the input is truncated at the byte limit, it is reported as too long
-pub record IsAnswered (n : ℕ) (b : List ℕ) (f g : Refusal) : Type 0 where
+pub record IsReportedAs (n : ℕ) (b : List ℕ) (f g : Refusal) : Type 0 where
   pub too_long : f.reason ≡ Truncated → length b ≡ n → g ≡ refusal TooLong n n
   pub same : (f.reason ≡ Truncated → length b ≢ n) → g ≡ f

@@ -2,7 +2,7 @@
 
 ghost use Rattle.std.specs.Prelude.{◌≡◌, ◌↔◌, List, [], ℕ, length};
 ghost use Rattle.theory_automaton.specs.Trace.{Mark};
-ghost use Rattle.cbor_machine.specs.NextEvent.{Call, StandsBetween, IsNextEvent};
+ghost use Rattle.cbor_machine.specs.NextEvent.{Call, AgreesBetween, IsNextEvent};
 ghost use Rattle.cbor_machine.specs.Machine.{IsComplete};
 ghost use Rattle.cbor_machine.specs.MachineView.{MachineView};
 ghost use Rattle.cbor_head.specs.declared.event.Event.{Event};
@@ -13,11 +13,11 @@ ghost use Rattle.theory_verdicts.specs.Place.{Place, at_item, done, open_at, IsP
 /// which containers are open and whether the item is complete.
 pub fn events_lead_from_place_to_place()
     ensures begins { (d : ℕ) → IsPlaced d [] [] (at_item []) }
-    ensures leads { (e : Event) (c : Call) (p : Place) → StandsBetween c.old c.taken c.reported
+    ensures leads { (e : Event) (c : Call) (p : Place) → AgreesBetween c.old c.taken c.reported
         → IsPlaced c.old.depth c.taken c.reported p → c.new.depth ≡ c.old.depth
         → (next : IsNextEvent e c) → LeadsOn e c next.bytes p }
     ensures open { (m : MachineView) (t : List ℕ) (ms : List Mark) (p : Place)
-        → StandsBetween m t ms → IsPlaced m.depth t ms p → m.open_count ≡ length (open_at p) }
+        → AgreesBetween m t ms → IsPlaced m.depth t ms p → m.open_count ≡ length (open_at p) }
     ensures complete { (m : MachineView) (t : List ℕ) (ms : List Mark) (p : Place)
-        → StandsBetween m t ms → IsPlaced m.depth t ms p → IsComplete m ↔ (p ≡ done) }
+        → AgreesBetween m t ms → IsPlaced m.depth t ms p → IsComplete m ↔ (p ≡ done) }
 {}

@@ -25,8 +25,8 @@ abbrev pub IsLaid : Core → Type 0
 IsLaid c = Laid c.order c.out c.spans.items (frames c) × IsRooted c
 
 -- it is laid, and these are open
-abbrev pub StandsAs : Core → List Open → Type 0
-StandsAs c os = IsLaid c × (open_levels c ≡ os)
+abbrev pub IsLaidWith : Core → List Open → Type 0
+IsLaidWith c os = IsLaid c × (open_levels c ≡ os)
 
 -- after a call the order is unchanged, and these are open unless memory ran out
 pub record CoreLeaves {A E : Type 0} (r : Result A E) (old new : Core) (os : List Open) : Type 0 where
@@ -56,5 +56,5 @@ IsLeftOpen old new = WasLaid old.spans.items new × (came_open_levels old.spans.
 pub record CoreEnds {E : Type 0} (r : Result Bool E) (old new : Core) (os : List Open) : Type 0 where
   pub order : new.order ≡ old.order
   pub distinct : IfOk r (λ distinct. IsTrue distinct ↔ HasNoRepeats (innermost old))
-  pub ended : IfOk r (λ distinct. IsTrue distinct → StandsAs new os)
+  pub ended : IfOk r (λ distinct. IsTrue distinct → IsLaidWith new os)
   pub left : IfOk r (λ distinct. distinct ≡ false → IsLeftOpen old new)

@@ -115,8 +115,8 @@ opening_frame m from end spans = record { from = from; start = end; shape = Cont
 
 -- ---- what a builder's parts represent, and the invariant of these
 
-abbrev pub Stands : KeyOrder → List ℕ → List Span → List Frame → List Open → Type 0
-Stands o out ss fs os = Laid o out ss fs × (opens out ss fs ≡ os)
+abbrev pub Agrees : KeyOrder → List ℕ → List Span → List Frame → List Open → Type 0
+Agrees o out ss fs os = Laid o out ss fs × (opens out ss fs ≡ os)
 
 -- the innermost is ready for one more member
 abbrev pub Completed : KeyOrder → List Span → ℕ → Frame → List ℕ → List Span → Frame → Type 0

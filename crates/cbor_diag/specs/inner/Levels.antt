@@ -23,9 +23,9 @@ module _ {N : Type 0} (see : N → Value) where
   rest_of l v = left_of l v.indent v.left
 
   -- what is left of all of them, the innermost first
-  abbrev pub behind : Layout → List (OpenNode N) → List ℕ
-  behind l [] = []
-  behind l (v ∷ vs) = rest_of l v ++ behind l vs
+  abbrev pub following : Layout → List (OpenNode N) → List ℕ
+  following l [] = []
+  following l (v ∷ vs) = rest_of l v ++ following l vs
 
   -- how deep what is left nests
   abbrev pub depth_left : Remaining N → ℕ
@@ -49,7 +49,7 @@ module _ {N : Type 0} (see : N → Value) where
   -- what is left, if this container is the innermost and these are around it
   abbrev pub all_left : Layout → Option (OpenNode N) → List (OpenNode N) → List ℕ
   all_left l None vs = []
-  all_left l (Some v) vs = rest_of l v ++ behind l vs
+  all_left l (Some v) vs = rest_of l v ++ following l vs
 
   abbrev pub AreAllShallow : Option (OpenNode N) → List (OpenNode N) → Type 0
   AreAllShallow None vs = Unit {0}

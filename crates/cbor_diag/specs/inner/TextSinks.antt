@@ -96,13 +96,13 @@ abbrev pub IsWithin : TextSink → List ℕ → List Level → Type 0
 IsWithin g t vs = IsAt g t (inner_in vs) (around_in vs)
 
 -- The state of the sink in a state of the parser. In a full container, its text so far and its end are the text of the item.
-abbrev pub text_stands : TextSink → TextSink → ParseState → Type 0
-text_stands start g (item_expected []) = IsAt g [] None []
-text_stands start g (item_expected (v ∷ vs)) = IsAt g (text_in (text_to vs) v) (Some (open_of v)) (around_in (v ∷ vs))
-text_stands start g (item_full vs s) =
+abbrev pub text_agrees : TextSink → TextSink → ParseState → Type 0
+text_agrees start g (item_expected []) = IsAt g [] None []
+text_agrees start g (item_expected (v ∷ vs)) = IsAt g (text_in (text_to vs) v) (Some (open_of v)) (around_in (v ∷ vs))
+text_agrees start g (item_full vs s) =
     (t : List ℕ) × (o : Open) × (t ++ closer o.major ≡ text (value_of s))
     × IsAt g (text_to vs ++ t) (Some o) (around_in vs ++ option_to_list (inner_in vs))
-text_stands start g (item_whole s) = IsAt g (text (value_of s)) None []
+text_agrees start g (item_whole s) = IsAt g (text (value_of s)) None []
 
 -- the state of the sink within a string, with this content so far
 abbrev pub text_holds : TextSink → TextSink → List Level → Bool → List ℕ → Type 0
@@ -111,4 +111,4 @@ text_holds start g vs is_text content = IsWithin g (text_to vs ++ (opening is_te
 -- the text before an item was put
 abbrev pub Reaches : Bool → TextSink → TextSink → Type 0
 Reaches is_key old new =
-    (start : TextSink) (vs : List Level) → Reported TextSink text_stands is_key start old (item_expected vs) → IsWithin new (text_to vs) vs
+    (start : TextSink) (vs : List Level) → Reported TextSink text_agrees is_key start old (item_expected vs) → IsWithin new (text_to vs) vs

@@ -75,7 +75,7 @@ pub(super) struct Row {
     pub(super) bytes: Vec<u8>,
     pub(super) limits: Limits,
     pub(super) listing: String,
-    pub(super) answer: &'static str,
+    pub(super) outcome: &'static str,
 }
 
 pub(super) fn rows_of(alloc: Global, table: &'static str) -> Result<Vec<Row>, Fail> {
@@ -87,13 +87,13 @@ pub(super) fn rows_of(alloc: Global, table: &'static str) -> Result<Vec<Row>, Fa
 }
 
 fn row_of(alloc: Global, line: &'static str) -> Result<Row, Fail> {
-    let (digits, limits, events, answer) = columns_of(line).ok_or("five columns")?;
+    let (digits, limits, events, outcome) = columns_of(line).ok_or("five columns")?;
     Ok(Row {
         line,
         bytes: hex::decode(alloc, digits)?,
         limits: limits_of(limits).ok_or("limits")?,
         listing: listing_of(alloc, events)?,
-        answer,
+        outcome,
     })
 }
 
@@ -101,8 +101,8 @@ fn columns_of(line: &str) -> Option<(&str, &str, &str, &str)> {
     let (digits, rest) = line.split_once('|')?;
     let (limits, rest) = rest.split_once('|')?;
     let (events, rest) = rest.split_once('|')?;
-    let (answer, _) = rest.split_once('|')?;
-    Some((digits.trim(), limits.trim(), events.trim(), answer.trim()))
+    let (outcome, _) = rest.split_once('|')?;
+    Some((digits.trim(), limits.trim(), events.trim(), outcome.trim()))
 }
 
 fn limits_of(column: &str) -> Option<Limits> {
@@ -123,11 +123,11 @@ fn listing_of(alloc: Global, column: &str) -> Result<String, AllocError> {
 }
 
 // A result as the column has it: the number of bytes of the item, or the refusal.
-pub(super) fn answer_text(
+pub(super) fn outcome_text(
     alloc: Global,
-    answer: Result<u64, Refusal>,
+    outcome: Result<u64, Refusal>,
 ) -> Result<String, AllocError> {
-    match answer {
+    match outcome {
         Ok(count) => format!(in alloc; "{count}"),
         Err(refusal) => format!(in alloc; "{refusal}, read {}", refusal.read),
     }

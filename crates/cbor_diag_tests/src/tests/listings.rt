@@ -1,7 +1,7 @@
 //! The listing against the tables, with readers and writers that read and accept few bytes at a
 //! time, or fail.
 
-use super::listing_tables::{ITEMS, REFUSED, Row, answer_text, rows_of};
+use super::listing_tables::{ITEMS, REFUSED, Row, outcome_text, rows_of};
 use super::streams::{STOPS, Sink, Source, Stop};
 use cbor_diag::{listing, listing_from};
 use cbor_head::{Limits, Reason, Refusal};
@@ -51,7 +51,7 @@ fn lists_in_parts(alloc: Global, row: &Row, parts: (usize, usize)) -> Result<boo
     let left = (row.bytes.len() as u64).saturating_sub(taken);
     let is_right = sink.held.as_slice() == row.listing.as_bytes()
         && source.rest.len() as u64 == left;
-    Ok(is_right && answer_text(alloc, given)?.as_str() == row.answer)
+    Ok(is_right && outcome_text(alloc, given)?.as_str() == row.outcome)
 }
 
 static PARTS: [(usize, usize); 4] = [
@@ -77,8 +77,8 @@ fn lists_items(rt: HostRuntime) -> Result<(), Fail> {
 fn lists_from(alloc: Global, start: u32, limits: Limits, row: &Row) -> bool {
     let mut source = row.bytes.as_slice();
     let mut shown = Vec::new(alloc);
-    let answer = listing_from(&mut source, u64::from(start), limits, &mut shown);
-    answer == Ok(row.bytes.len() as u64) && shown.as_slice() == row.listing.as_bytes()
+    let outcome = listing_from(&mut source, u64::from(start), limits, &mut shown);
+    outcome == Ok(row.bytes.len() as u64) && shown.as_slice() == row.listing.as_bytes()
 }
 
 // After 5 bytes, and after 2^32 - 1 bytes.
@@ -252,7 +252,7 @@ fn requests_expected_bytes(rt: HostRuntime) {
     // {256: "a"}: a head, a head and its argument, a head and its payload.
     let mut source = Source::new(rt.alloc(), b"\xa1\x19\x01\x00\x61\x61");
     let mut sink = Sink::new(rt.alloc());
-    let answer = listing(&mut source, limits(&rt, 256, 1 << 20), &mut sink);
-    assert!(rt; answer == Ok(6));
+    let outcome = listing(&mut source, limits(&rt, 256, 1 << 20), &mut sink);
+    assert!(rt; outcome == Ok(6));
     assert!(rt; source.asked.as_slice() == [1, 1, 2, 1, 1].as_slice());
 }

@@ -3,7 +3,7 @@ use Rattle.std.specs.Prelude.{◌≡◌, ℕ, ◌<◌, ◌≤◌, ◌++◌, List
 use Rattle.std.specs.Io.KnownBytes.{Consumes, IsAtEnd}
 use Rattle.cbor_head.specs.{declared.event.Event.Event, Prelude.AreBytes, declared.reason.Refusal.Refusal}
 use Rattle.theory_automaton.specs.{Trace.Mark, Pieces.piece_by}
-use Rattle.cbor_machine.specs.Machine.{StandsFor, IsGiven, IsRefused}
+use Rattle.cbor_machine.specs.Machine.{Represents, IsGiven, IsRefused}
 use Rattle.cbor_machine.specs.NextEvent.{Call, machine_call, IsNext, IsNextEvent, IfReported}
 use Rattle.cbor_machine.specs.declared.step.Out.TheVariants as outs
 use Rattle.cbor_machine.specs.{MachineView.MachineView, Calls.HasRead, Steps.IsStep}
@@ -20,7 +20,7 @@ IsAsked Failed want from to buffer = (0 < want) × Consumes from to []
 -- what the machine makes of bytes that it expected, if it represented t and ms
 abbrev pub IsPartTaken : PartialEvent → MachineView → MachineView → List ℕ → List ℕ → List Mark → Type 0
 IsPartTaken (Reported e) old new t bs ms = IsGiven e new t bs ms
-IsPartTaken Open old new t bs ms = StandsFor new (t ++ bs) ms
+IsPartTaken Open old new t bs ms = Represents new (t ++ bs) ms
 IsPartTaken (Stopped f) old new t bs ms = IsRefused f new t bs ms × IsStep (outs.Refused f) old new bs
 
 -- What one read into the buffer makes of a call. When the call began, the machine was `was` and the reader held `from`.
@@ -67,10 +67,10 @@ pub record HasFirst (p : PartialEvent) (old new : MachineView) (from to : Option
   pub taken : IsPartTaken p old new t (first ∷ []) ms
 
 -- what a call returns if no payload is open
-abbrev pub IsFirstAnswer : PartialEvent → Call → Type 0
-IsFirstAnswer (Reported e) c = IsNextEvent e c
-IsFirstAnswer Open c = Unit {0}
-IsFirstAnswer (Stopped f) c = IsNext (Err f) c
+abbrev pub IsFirstResult : PartialEvent → Call → Type 0
+IsFirstResult (Reported e) c = IsNextEvent e c
+IsFirstResult Open c = Unit {0}
+IsFirstResult (Stopped f) c = IsNext (Err f) c
 
 -- the byte at this offset was consumed: a refusal, if there is one, is after it
 abbrev pub IsTakenAt : PartialEvent → ℕ → Type 0

@@ -6,10 +6,10 @@ ghost use Rattle.theory_values.specs.FirstBytes as first_bytes;
 ghost use Rattle.theory_automaton.specs.Trace.{Mark};
 ghost use Rattle.theory_automaton.specs.Marks.{IsProper};
 ghost use Rattle.theory_automaton.specs.Reasons.{IsEventReason};
-ghost use Rattle.cbor_machine.specs.Machine.{KeepsLimits, IsIdle, StandsFor, wanted};
-ghost use Rattle.cbor_machine.specs.NextEvent.{StandsBetween, IfReported, machine_call};
+ghost use Rattle.cbor_machine.specs.Machine.{KeepsLimits, IsIdle, Represents, wanted};
+ghost use Rattle.cbor_machine.specs.NextEvent.{AgreesBetween, IfReported, machine_call};
 ghost use Rattle.cbor_machine.specs.NextKey.{IsNextKey, IsKeyReason};
-ghost use Rattle.cbor_events.specs.inner.Reads.{HasFirst, HasStopped, IsFirstAnswer, IsTakenAt};
+ghost use Rattle.cbor_events.specs.inner.Reads.{HasFirst, HasStopped, IsFirstResult, IsTakenAt};
 ghost use Rattle.cbor_events.specs.inner.Reads.{IfPartReported, IfStopped};
 
 use crate::item_events::reading::{ARGUMENT, at_end, next_part};
@@ -31,7 +31,7 @@ pub(crate) fn key_head<R: Read>(
 ) -> Result<Option<Event>, Refusal>
     requires within { machine.old.open_count ≤ machine.old.depth }
     requires head { machine.old.in_payload ≡ false }
-    ensures answers { (kept t : List ℕ) (ms : List Mark) → StandsBetween machine.old t ms
+    ensures returned { (kept t : List ℕ) (ms : List Mark) → AgreesBetween machine.old t ms
         → IsNextKey result (machine_call machine.old machine.new
         (R.remaining reader.old) (R.remaining reader.new) kept kept t ms) }
     ensures limits { KeepsLimits machine.old machine.new }
@@ -60,10 +60,10 @@ fn first_byte<R: Read>(machine: &mut Machine, reader: &mut R) -> (PartialEvent, 
     requires wanted { 0 < wanted machine.old }
     requires within { machine.old.open_count ≤ machine.old.depth }
     requires head { machine.old.in_payload ≡ false }
-    ensures answers { (kept t : List ℕ) (ms : List Mark) → StandsBetween machine.old t ms
-        → IsFirstAnswer result.0 (machine_call machine.old machine.new
+    ensures returned { (kept t : List ℕ) (ms : List Mark) → AgreesBetween machine.old t ms
+        → IsFirstResult result.0 (machine_call machine.old machine.new
         (R.remaining reader.old) (R.remaining reader.new) kept kept t ms) }
-    ensures lost { (t : List ℕ) (ms : List Mark) → StandsFor machine.old t ms
+    ensures lost { (t : List ℕ) (ms : List Mark) → Represents machine.old t ms
         → HasFirst result.0 machine.old machine.new
         (R.remaining reader.old) (R.remaining reader.new) result.1 t ms
         ⊎ HasStopped result.0 machine.old }

@@ -7,10 +7,10 @@ ghost use Rattle.theory_automaton.specs.Marks.{IsProper};
 ghost use Rattle.theory_automaton.specs.Reasons.{IsEventReason};
 ghost use Rattle.cbor_machine.specs.MachineView.{MachineView};
 ghost use Rattle.cbor_machine.specs.Machine.{KeepsLimits, IsIdle, wanted};
-ghost use Rattle.cbor_machine.specs.NextEvent.{StandsBetween, IfReported, IsNext};
+ghost use Rattle.cbor_machine.specs.NextEvent.{AgreesBetween, IfReported, IsNext};
 ghost use Rattle.cbor_machine.specs.NextEvent.{machine_call};
 ghost use Rattle.cbor_machine.specs.Calls.{HasRead, piece_after, piece_size};
-ghost use Rattle.cbor_machine.specs.Machine.{StandsFor};
+ghost use Rattle.cbor_machine.specs.Machine.{Represents};
 ghost use Rattle.cbor_events.specs.inner.Reads.{IfGiven};
 
 use crate::item_events::PART;
@@ -37,8 +37,8 @@ fn expected(machine: &Machine, buffer: &[u8]) -> usize
 #[inline(never)]
 pub(crate) fn at_end(machine: &mut Machine) -> Result<Option<Event>, Refusal>
     requires { wanted machine.old ≡ 0 }
-    ensures answers { (was : MachineView) (from to : Option (List ℕ)) (kept t : List ℕ)
-        (ms : List Mark) → StandsBetween was t ms → HasRead from to machine.old t ms
+    ensures returned { (was : MachineView) (from to : Option (List ℕ)) (kept t : List ℕ)
+        (ms : List Mark) → AgreesBetween was t ms → HasRead from to machine.old t ms
         → machine.old.depth ≡ was.depth
         → IsNext result (machine_call was machine.new from to kept kept t ms) }
     ensures limits { KeepsLimits machine.old machine.new }
@@ -63,13 +63,13 @@ fn next_event<R: Read>(
 ) -> Result<Option<Event>, Refusal>
     requires space { 0 < length buffer.old }
     requires within { machine.old.open_count ≤ machine.old.depth }
-    ensures answers { (was : MachineView) (from : Option (List ℕ)) (kept t : List ℕ)
-        (ms : List Mark) → StandsBetween was t ms
+    ensures returned { (was : MachineView) (from : Option (List ℕ)) (kept t : List ℕ)
+        (ms : List Mark) → AgreesBetween was t ms
         → HasRead from (R.remaining reader.old) machine.old t ms
         → machine.old.depth ≡ was.depth
         → IsNext result (machine_call was machine.new from (R.remaining reader.new)
         kept (piece_after result kept buffer.new) t ms) }
-    ensures given { (t : List ℕ) (ms : List Mark) → StandsFor machine.old t ms
+    ensures given { (t : List ℕ) (ms : List Mark) → Represents machine.old t ms
         → IfGiven result machine.new t ms }
     ensures limits { KeepsLimits machine.old machine.new }
     ensures proper { IfReported result (λ e. IsProper e.width e.kind) }
@@ -101,13 +101,13 @@ pub(crate) fn next_part<R: Read>(
 ) -> Result<Option<Event>, Refusal>
     requires space { 0 < length buffer.old }
     requires within { machine.old.open_count ≤ machine.old.depth }
-    ensures answers { (was : MachineView) (from : Option (List ℕ)) (kept t : List ℕ)
-        (ms : List Mark) → StandsBetween was t ms
+    ensures returned { (was : MachineView) (from : Option (List ℕ)) (kept t : List ℕ)
+        (ms : List Mark) → AgreesBetween was t ms
         → HasRead from (R.remaining reader.old) machine.old t ms
         → machine.old.depth ≡ was.depth
         → IsNext result (machine_call was machine.new from (R.remaining reader.new)
         kept (piece_after result kept buffer.new) t ms) }
-    ensures given { (t : List ℕ) (ms : List Mark) → StandsFor machine.old t ms
+    ensures given { (t : List ℕ) (ms : List Mark) → Represents machine.old t ms
         → IfGiven result machine.new t ms }
     ensures limits { KeepsLimits machine.old machine.new }
     ensures proper { IfReported result (λ e. IsProper e.width e.kind) }
@@ -132,7 +132,7 @@ pub(crate) fn next_part<R: Read>(
 #[inline(always)]
 fn next_head<R: Read>(machine: &mut Machine, reader: &mut R) -> Result<Option<Event>, Refusal>
     requires within { machine.old.open_count ≤ machine.old.depth }
-    ensures answers { (kept t : List ℕ) (ms : List Mark) → StandsBetween machine.old t ms
+    ensures returned { (kept t : List ℕ) (ms : List Mark) → AgreesBetween machine.old t ms
         → machine.old.in_payload ≡ false
         → IsNext result (machine_call machine.old machine.new
         (R.remaining reader.old) (R.remaining reader.new) kept kept t ms) }
@@ -155,10 +155,10 @@ fn next_head<R: Read>(machine: &mut Machine, reader: &mut R) -> Result<Option<Ev
 
 // The length of the piece that was reported, if one was.
 #[inline(always)]
-fn piece_len(answer: &Result<Option<Event>, Refusal>) -> usize
-    ensures { result ≡ piece_size answer.now }
+fn piece_len(outcome: &Result<Option<Event>, Refusal>) -> usize
+    ensures { result ≡ piece_size outcome.now }
 {
-    match answer {
+    match outcome {
         Ok(
             Some(
                 Event {
@@ -181,7 +181,7 @@ pub(crate) fn advance<R: Read>(
 ) -> Result<Option<Event>, Refusal>
     requires fits { held.old ≤ 512 }
     requires within { machine.old.open_count ≤ machine.old.depth }
-    ensures answers { (t : List ℕ) (ms : List Mark) → StandsBetween machine.old t ms
+    ensures returned { (t : List ℕ) (ms : List Mark) → AgreesBetween machine.old t ms
         → IsNext result (machine_call machine.old machine.new
         (R.remaining reader.old) (R.remaining reader.new)
         (take held.old buffer.old) (take held.new buffer.new) t ms) }
@@ -195,7 +195,7 @@ pub(crate) fn advance<R: Read>(
     if !machine.is_in_payload() {
         return next_head(machine, reader);
     }
-    let answer = next_part(machine, reader, buffer);
-    *held = piece_len(&answer);
-    answer
+    let outcome = next_part(machine, reader, buffer);
+    *held = piece_len(&outcome);
+    outcome
 }

@@ -28,10 +28,10 @@ pub(super) fn rows_of(
 }
 
 fn row_of(rt: &impl Abort, alloc: Global, line: &'static str) -> Result<Row, AllocError> {
-    let (digits, limits, events, answer) = columns_of(line).expect(rt, "five columns");
+    let (digits, limits, events, outcome) = columns_of(line).expect(rt, "five columns");
     let bytes = bytes_of(alloc, digits.trim())?;
     let events = events_of(rt, alloc, events)?;
-    let (out, taken) = result_of(rt, answer.trim(), bytes.len() as u64);
+    let (out, taken) = result_of(rt, outcome.trim(), bytes.len() as u64);
     Ok(Row {
         line,
         bytes,
@@ -44,8 +44,8 @@ fn columns_of(line: &str) -> Option<(&str, &str, &str, &str)> {
     let (digits, rest) = line.split_once('|')?;
     let (limits, rest) = rest.split_once('|')?;
     let (events, rest) = rest.split_once('|')?;
-    let (answer, _) = rest.split_once('|')?;
-    Some((digits, limits, events, answer))
+    let (outcome, _) = rest.split_once('|')?;
+    Some((digits, limits, events, outcome))
 }
 
 fn limits_of(rt: &impl Abort, column: &str) -> Limits {

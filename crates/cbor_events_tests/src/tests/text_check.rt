@@ -63,11 +63,11 @@ c3bcc341ff | 2 | what is wrong first counts
 fn row_of(alloc: Global, line: &str) -> Option<(Vec<u8>, Result<(), u64>)> {
     let (digits, rest) = line.split_once('|')?;
     let (prefix, _) = rest.split_once('|')?;
-    let answer = match prefix.trim() {
+    let outcome = match prefix.trim() {
         "" => Ok(()),
         length => Err(length.parse().ok()?),
     };
-    Some((hex::decode(alloc, digits.trim()).ok()?, answer))
+    Some((hex::decode(alloc, digits.trim()).ok()?, outcome))
 }
 
 #[test]

@@ -8,13 +8,13 @@ abbrev pub parts_in : List Value → List ValuePart
 parts_in vs = parts_of_all (values_of vs)
 
 -- the parts still to come after the innermost: its end, and what is left of each container around it
-abbrev pub parts_behind : List (List Value) → List ValuePart
-parts_behind [] = []
-parts_behind (vs ∷ vss) = end ∷ parts_in vs ++ parts_behind vss
+abbrev pub parts_after : List (List Value) → List ValuePart
+parts_after [] = []
+parts_after (vs ∷ vss) = end ∷ parts_in vs ++ parts_after vss
 
 abbrev pub parts_left : List (List Value) → List ValuePart
 parts_left [] = []
-parts_left (vs ∷ vss) = parts_in vs ++ parts_behind vss
+parts_left (vs ∷ vss) = parts_in vs ++ parts_after vss
 
 -- what remains of a value after its first part
 abbrev pub inner_parts : Option (List Value) → List ValuePart

@@ -36,8 +36,8 @@ fn result_of(alloc: Global, words: &str) -> Result<String, Fail> {
 #[test]
 fn are_found(rt: HostRuntime) -> Result<(), Fail> {
     for line in RESULTS.trim().lines() {
-        let (words, answer, _) = columns_of(line)?;
-        assert!(rt; result_of(rt.alloc(), words)?.as_str() == answer, "{line}");
+        let (words, outcome, _) = columns_of(line)?;
+        assert!(rt; result_of(rt.alloc(), words)?.as_str() == outcome, "{line}");
     }
     Ok(())
 }

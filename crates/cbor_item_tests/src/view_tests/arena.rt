@@ -79,13 +79,13 @@ fn strings_of_any_length_stay_in_the_input(rt: HostRuntime) -> Result<(), Fail> 
     for len in [0_u16, 1, 3, 4, 8, 23, 24, 255, 256, 4000] {
         let [high, low] = len.to_be_bytes();
         for initial_byte in [0x59, 0x79] {
-            for (before, behind) in AROUND {
+            for (before, following) in AROUND {
                 let mut input = Vec::from_slice(alloc, before)?;
                 input.extend_from_slice(&[initial_byte, high, low])?;
                 for _ in 0..len {
                     input.push(b'a')?;
                 }
-                input.extend_from_slice(behind)?;
+                input.extend_from_slice(following)?;
                 check_arena(&rt, alloc, &input)?;
             }
         }

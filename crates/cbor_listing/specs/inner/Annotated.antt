@@ -13,6 +13,6 @@ abbrev pub IsHeld : ℕ → Context → Type 0
 IsHeld taken context = context.begun + context.size ≤ taken + context.left
 
 -- the same after a piece
-abbrev pub IsHeldBehind : EventKind → ℕ → Context → Type 0
-IsHeldBehind (Piece n) taken context = context.begun + context.size ≤ taken + (context.left - n)
-IsHeldBehind kind taken context = Unit {0}
+abbrev pub IsHeldAfter : EventKind → ℕ → Context → Type 0
+IsHeldAfter (Piece n) taken context = context.begun + context.size ≤ taken + (context.left - n)
+IsHeldAfter kind taken context = Unit {0}

@@ -3,8 +3,8 @@
 ghost use Rattle.std.specs.Prelude.{◌≡◌, ◌≤◌, ◌+◌, ◌-◌, ◌++◌, ℕ, List, length, true, None};
 ghost use Rattle.cbor_head.specs.Spelling.{Spelling, IsItem};
 ghost use Rattle.theory_automaton.specs.Trace.{Mark, trace};
-ghost use Rattle.cbor_machine.specs.Machine.{StandsFor, KeepsLimits};
-ghost use Rattle.cbor_machine.specs.NextEvent.{StandsBetween};
+ghost use Rattle.cbor_machine.specs.Machine.{Represents, KeepsLimits};
+ghost use Rattle.cbor_machine.specs.NextEvent.{AgreesBetween};
 
 use super::{Machine, below_256};
 use crate::position::close;
@@ -37,9 +37,9 @@ impl Machine {
         ensures limits { KeepsLimits self.old self.new }
 
         // For all bytes and marks that the machine represented, and the item of these bytes.
-        ensures stands { (t : List ℕ) (ms : List Mark) (s : Spelling) → StandsFor self.old t ms
+        ensures agrees { (t : List ℕ) (ms : List Mark) (s : Spelling) → Represents self.old t ms
             → IsItem (self.old.depth - self.old.open_count) s bytes.now
-            → StandsBetween self.new (t ++ bytes.now) (ms ++ trace s) }
+            → AgreesBetween self.new (t ++ bytes.now) (ms ++ trace s) }
     {
         below_256(bytes);
         self.position = close(&mut self.container_stack);

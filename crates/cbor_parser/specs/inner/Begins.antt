@@ -9,32 +9,32 @@ use Rattle.cbor_parser.specs.inner.Parts.{IsHead}
 
 -- whole chunks of a string of this type, and then a break
 pub data AreWholeChunks (t : Bool) : List ℕ → Type 0 where
-  at_break : (rest behind : List ℕ) → rest ≡ 0xff ∷ behind → AreWholeChunks t rest
+  at_break : (rest following : List ℕ) → rest ≡ 0xff ∷ following → AreWholeChunks t rest
   a_chunk : (rest : List ℕ) (n : ℕ) (from : List ℕ) → IsHead (string_major t) n rest from → n ≤ length from → (t ≡ true → IsUtf8 (take n from)) → AreWholeChunks t (drop n from) → AreWholeChunks t rest
 
 -- the argument of a head; the payload of a string is complete, and a text's is UTF-8
-pub record HasHead (first : ℕ) (behind : List ℕ) : Type 0 where
+pub record HasHead (first : ℕ) (following : List ℕ) : Type 0 where
   pub width : Width
   pub number : ℕ
   pub rest : List ℕ
-  pub argument : IsArgument (first % 32) behind width number rest
+  pub argument : IsArgument (first % 32) following width number rest
   pub inside : 64 ≤ first → first < 128 → number ≤ length rest
   pub utf8 : 96 ≤ first → first < 128 → IsUtf8 (take number rest)
   pub simple : first ≡ 0xf8 → 32 ≤ number
 
 -- an item begins with this byte; a string is whole
-pub record BeginsItem (space : Bool) (first : ℕ) (behind : List ℕ) : Type 0 where
+pub record BeginsItem (space : Bool) (first : ℕ) (following : List ℕ) : Type 0 where
   pub may : MayBegin first space
-  pub head : first % 32 < 28 → HasHead first behind
-  pub bytes : first ≡ 0x5f → AreWholeChunks false behind
-  pub text : first ≡ 0x7f → AreWholeChunks true behind
+  pub head : first % 32 < 28 → HasHead first following
+  pub bytes : first ≡ 0x5f → AreWholeChunks false following
+  pub text : first ≡ 0x7f → AreWholeChunks true following
 
 -- an item that is allowed there begins, or a break
 pub record Begins (here : Here) (rest : List ℕ) : Type 0 where
   pub first : ℕ
-  pub behind : List ℕ
-  pub is : rest ≡ first ∷ behind
-  pub what : ((first ≡ 0xff) × (here.may_break ≡ true)) ⊎ (BeginsItem here.space first behind × (here.is_key ≡ true → IsFitPrefix rest))
+  pub following : List ℕ
+  pub is : rest ≡ first ∷ following
+  pub what : ((first ≡ 0xff) × (here.may_break ≡ true)) ⊎ (BeginsItem here.space first following × (here.is_key ≡ true → IsFitPrefix rest))
 
 -- what begins is not refused
 abbrev pub BeginsUnrefused : Here → List ℕ → ItemStart → Type 0

@@ -71,7 +71,7 @@ AreCells input _ _ = ⊥
 -- ---- the position of the walk
 
 -- an item is expected within these containers, in which nothing has a complaint
-pub record StandsAt (o : KeyOrder) (limits : Bounds) (input : List ℕ) (cs : List StrictCell) (at : ℕ) : Type 0 where
+pub record AgreesAt (o : KeyOrder) (limits : Bounds) (input : List ℕ) (cs : List StrictCell) (at : ℕ) : Type 0 where
   pub ls : List path.Level
   pub clean : AreClean (strict o) limits.depth ls
   pub keeps : KeepsToKinds limits (strict o) (bytes_before ls)

@@ -39,7 +39,7 @@ abbrev pub AreChunksRefused : List ℕ → ℕ → Refusal → Type 0
 AreChunksRefused b at f = (space : Bool) → IsRefusedBy plain space b at f
 
 abbrev pub IsIndefiniteStart : Bool → ℕ → List ℕ → ℕ → ItemStart → Type 0
-IsIndefiniteStart true first behind at start = start ≡ Refused (refusal IndefiniteReason at (at + 1))
-IsIndefiniteStart false first behind at (Refused f) = AreChunksRefused (first ∷ behind) at f
-IsIndefiniteStart false first behind at Indefinite = (first ≡ 0x5f → AreWholeChunks false behind) × (first ≡ 0x7f → AreWholeChunks true behind)
-IsIndefiniteStart false first behind at _ = ⊥
+IsIndefiniteStart true first following at start = start ≡ Refused (refusal IndefiniteReason at (at + 1))
+IsIndefiniteStart false first following at (Refused f) = AreChunksRefused (first ∷ following) at f
+IsIndefiniteStart false first following at Indefinite = (first ≡ 0x5f → AreWholeChunks false following) × (first ≡ 0x7f → AreWholeChunks true following)
+IsIndefiniteStart false first following at _ = ⊥

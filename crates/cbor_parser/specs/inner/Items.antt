@@ -50,13 +50,13 @@ IsTaken _ = ⊥
 
 -- a string with this first byte is at the start, with its head in its shortest form and its whole payload
 pub record IsShortString (first : ℕ) (b : List ℕ) (payload end : ℕ) : Type 0 where
-  pub behind : List ℕ
-  pub is : b ≡ first ∷ behind
+  pub following : List ℕ
+  pub is : b ≡ first ∷ following
   pub count : ℕ
   pub rest : List ℕ
-  pub head : IsShortest (first % 32) behind count rest
-  pub fewer : length rest ≤ length behind
-  pub begins : payload ≡ 1 + (length behind - length rest)
+  pub head : IsShortest (first % 32) following count rest
+  pub fewer : length rest ≤ length following
+  pub begins : payload ≡ 1 + (length following - length rest)
   pub size : end ≡ payload + count
   pub inside : end ≤ length b
 

@@ -19,20 +19,20 @@ pub record IsItemThen (o : KeyOrder) (d : ℕ) (input rest : List ℕ) : Type 0 
 
 -- the low five bits of a first byte and the bytes after it encode this argument in its shortest form, and the rest
 -- follows
-pub record IsShortest (low : ℕ) (behind : List ℕ) (n : ℕ) (rest : List ℕ) : Type 0 where
-  pub spelled : (first : ℕ) → (first + low) ∷ behind ≡ with_argument (shortest n) first n ++ rest
+pub record IsShortest (low : ℕ) (following : List ℕ) (n : ℕ) (rest : List ℕ) : Type 0 where
+  pub spelled : (first : ℕ) → (first + low) ∷ following ≡ with_argument (shortest n) first n ++ rest
   pub range : n < 2 ^ 64
 
 -- these low bits and the bytes after them encode a head's argument in its shortest form; the head has this size
-pub record IsShortestHead (low : ℕ) (behind : List ℕ) (size : ℕ) : Type 0 where
+pub record IsShortestHead (low : ℕ) (following : List ℕ) (size : ℕ) : Type 0 where
   pub some : 0 < size
-  pub inside : size - 1 ≤ length behind
+  pub inside : size - 1 ≤ length following
   pub number : ℕ
-  pub shortest : IsShortest low behind number (drop (size - 1) behind)
+  pub shortest : IsShortest low following number (drop (size - 1) following)
 
 -- a head with this first byte, in its shortest form, is at the start and has this size
 abbrev pub HasShortestHead : ℕ → ℕ → List ℕ → Type 0
-HasShortestHead first size b = (behind : List ℕ) × (b ≡ first ∷ behind) × IsShortestHead (first % 32) behind size
+HasShortestHead first size b = (following : List ℕ) × (b ≡ first ∷ following) × IsShortestHead (first % 32) following size
 
 -- the first bytes, this number of them, are an item, within this much space for containers
 pub record IsLeaf (space : Bool) (b : List ℕ) (used : ℕ) : Type 0 where

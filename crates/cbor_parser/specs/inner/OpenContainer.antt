@@ -63,20 +63,20 @@ full_opener _ = []
 
 -- the cell of a container, if this number of bytes follows its head
 abbrev pub cell_of : ℕ → Level → Cell
-cell_of behind (a_member w left done) = counted Item left behind
-cell_of behind (a_key w left done) = counted Key left behind
-cell_of behind (a_value w left done k) = counted Value left behind
-cell_of behind (some_member done) = indefinite Item behind
-cell_of behind (some_key done) = indefinite Key behind
-cell_of behind (some_value done k) = indefinite Value behind
-cell_of behind (tagged w n) = counted Item 0 behind
+cell_of following (a_member w left done) = counted Item left following
+cell_of following (a_key w left done) = counted Key left following
+cell_of following (a_value w left done k) = counted Value left following
+cell_of following (some_member done) = indefinite Item following
+cell_of following (some_key done) = indefinite Key following
+cell_of following (some_value done k) = indefinite Value following
+cell_of following (tagged w n) = counted Item 0 following
 
 -- how many bytes follow the head, within these containers, in an input of this number of bytes
-abbrev pub behind_head : ℕ → List Level → Level → ℕ
-behind_head n ls l = n - length (bytes_before ls ++ opener l)
+abbrev pub bytes_after_head : ℕ → List Level → Level → ℕ
+bytes_after_head n ls l = n - length (bytes_before ls ++ opener l)
 
 -- the cells of all open containers, in an input of this number of bytes; the outermost is the input itself, in which one
 -- item is expected
 abbrev pub cells_of : ℕ → List Level → List Cell
 cells_of n [] = counted Item 0 0 ∷ []
-cells_of n (l ∷ ls) = cell_of (behind_head n ls l) l ∷ cells_of n ls
+cells_of n (l ∷ ls) = cell_of (bytes_after_head n ls l) l ∷ cells_of n ls

@@ -6,16 +6,16 @@ use Rattle.cbor_head.specs.declared.order.KeyOrder.{KeyOrder}
 use Rattle.cbor_builder.specs.{Built.HasKey, Built.AreOpenKeysDifferent, declared.repeat.Repeat.Repeat}
 use Rattle.theory_verdicts.specs.Levels.{IsTaken, Level, AreLevels, bytes_before}
 use Rattle.theory_verdicts.specs.{Given.opens, Kinds.KeepsToKinds}
-use Rattle.cbor_parser.specs.{Sink.IsKeyBehind, inner.OpenContainer.opener, inner.OpenContainer.Cell, inner.OpenMaps.FindsMap}
+use Rattle.cbor_parser.specs.{Sink.IsKeyAfter, inner.OpenContainer.opener, inner.OpenContainer.Cell, inner.OpenMaps.FindsMap}
 
 -- The input's item has a key with the canonical bytes of an earlier one of its map, and no two keys before it are the
 -- same. This number of bytes of the input follows the map's head.
-pub record IsKeyReported (limits : Bounds) (input : List ℕ) (behind pair : ℕ) : Type 0 where
+pub record IsKeyReported (limits : Bounds) (input : List ℕ) (following pair : ℕ) : Type 0 where
   pub level : Level
   pub outer : List Level
   pub levels : AreLevels limits.depth (level ∷ outer)
   pub es : SpelledEntries
-  pub is_behind : IsKeyBehind level es
+  pub is_after : IsKeyAfter level es
   pub count : entries_count es ≡ pair
   pub key : Spelling
   pub taken : IsTaken (limits.depth - suc (length outer)) key
@@ -26,7 +26,7 @@ pub record IsKeyReported (limits : Bounds) (input : List ℕ) (behind pair : ℕ
   pub bytes : input ≡ bytes_before (level ∷ outer) ++ (spell key ++ more)
   pub small : length input ≤ 2 ^ 62
   pub keeps : KeepsToKinds limits plain (bytes_before (level ∷ outer) ++ spell key)
-  pub begins : behind ≡ length input - length (bytes_before outer ++ opener level)
+  pub begins : following ≡ length input - length (bytes_before outer ++ opener level)
 
 -- the cell that was found gives the position of its map's reported key
 abbrev pub IsCellReported : Bounds → List ℕ → Option Cell → ℕ → Type 0

@@ -12,9 +12,9 @@ anything S start g ls is_text content = Unit {0}
 
 -- this number of items without complaint are at the start, as they may be within one container, and these bytes follow
 -- them
-pub record StandAtStart (d : ℕ) (bytes : List ℕ) (count : ℕ) (behind : List ℕ) : Type 0 where
+pub record HasItemsAtStart (d : ℕ) (bytes : List ℕ) (count : ℕ) (following : List ℕ) : Type 0 where
   pub items : Spellings
   pub taken : AreTaken (d - 1) items
   pub space : 0 < d
   pub count_is : spellings_count items ≡ count
-  pub bytes_are : bytes ≡ spell_all items ++ behind
+  pub bytes_are : bytes ≡ spell_all items ++ following

@@ -3,7 +3,7 @@ use Rattle.std.specs.Prelude.{◌≡◌, ◌≤◌, ◌<◌, ◌-◌, ℕ, suc, 
 use Rattle.cbor_head.specs.Prelude.{strict, Bounds, AreBytes}
 use Rattle.cbor_head.specs.declared.order.KeyOrder.{KeyOrder}
 use Rattle.theory_verdicts.specs.Stop.{IsStopped}
-use Rattle.cbor_parser.specs.inner.Cells.{StrictCell, StandsAt, HasEndedAt, HasClosed, IsWhole, OutOfOrder}
+use Rattle.cbor_parser.specs.inner.Cells.{StrictCell, AgreesAt, HasEndedAt, HasClosed, IsWhole, OutOfOrder}
 use Rattle.cbor_parser.specs.declared.strict_rules.StrictStop.TheVariants as stop
 use Rattle.cbor_parser.specs.declared.item_rules.Step.TheVariants as steps
 use Rattle.cbor_parser.specs.declared.{item_rules.Step.Step, strict_rules.StrictRules.StrictRules, strict_rules.StrictStop.StrictStop}
@@ -21,7 +21,7 @@ AreAt P first now limits input cs rest = AreBefore first now input rest × P fir
 
 -- an item is expected
 abbrev pub Expect : StrictRules → StrictRules → Bounds → List ℕ → List StrictCell → List ℕ → Type 0
-Expect = AreAt StandsAt
+Expect = AreAt AgreesAt
 
 -- an item is complete
 abbrev pub HaveItem : StrictRules → StrictRules → Bounds → List ℕ → List StrictCell → List ℕ → Type 0
@@ -51,7 +51,7 @@ Stop first now limits input (c ∷ cs) rest stop.OutOfOrder = AreBefore first no
 
 -- an item of a container is complete, and ends there
 abbrev pub Advances : Step StrictStop → KeyOrder → List ℕ → ℕ → StrictCell → StrictCell → Type 0
-Advances steps.Next o input at old new = (limits : Bounds) (cs : List StrictCell) → HasEndedAt o limits input (old ∷ cs) at → StandsAt o limits input (new ∷ cs) at
+Advances steps.Next o input at old new = (limits : Bounds) (cs : List StrictCell) → HasEndedAt o limits input (old ∷ cs) at → AgreesAt o limits input (new ∷ cs) at
 Advances steps.Full o input at old new = (limits : Bounds) (cs : List StrictCell) → HasEndedAt o limits input (old ∷ cs) at → HasClosed o limits input cs at
 Advances (steps.Stopped stop.OutOfOrder) o input at old new = (limits : Bounds) (cs : List StrictCell) → HasEndedAt o limits input (old ∷ cs) at → OutOfOrder o limits input new.kept at
 Advances (steps.Stopped stop.Refused) o input at old new = ⊥

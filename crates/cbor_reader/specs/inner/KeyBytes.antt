@@ -56,13 +56,13 @@ is_kept zero is_key = is_key
 is_kept (suc n) is_key = true
 
 -- a key that is complete gets a value of no bytes
-abbrev pub behind_item : ℕ → List Open → List Open
-behind_item zero os = give [] os
-behind_item (suc n) os = os
+abbrev pub after_item : ℕ → List Open → List Open
+after_item zero os = give [] os
+after_item (suc n) os = os
 
 -- what is stored after an item of these bytes
 abbrev pub with_item : ℕ → Bool → List ℕ → List Open → List Open
-with_item n is_key b os = if is_kept n is_key then behind_item n (give b os) else os
+with_item n is_key b os = if is_kept n is_key then after_item n (give b os) else os
 
 -- ---- the state at a position in the item
 
@@ -72,8 +72,8 @@ KeepsAt o os n (item_full ls s) =
     (d : ℕ) × (c : Open) × IsFull o d c s × (is_open_map c ≡ is_map s) × (os ≡ kept (in_key ls) c (kept_all o ls)) × (n ≡ one_more (in_key ls) (inside ls))
 KeepsAt o os n (item_whole s) = Unit {0}
 
-abbrev pub keys_stand : KeyBytes → KeyBytes → ParseState → Type 0
-keys_stand start g st = KeepsAt g.builder.order g.builder.open_levels g.inside st
+abbrev pub keys_agree : KeyBytes → KeyBytes → ParseState → Type 0
+keys_agree start g st = KeepsAt g.builder.order g.builder.open_levels g.inside st
 
 -- within a string, it also holds the content so far, if that is stored
 abbrev pub keys_hold : KeyBytes → KeyBytes → List Level → Bool → List ℕ → Type 0

@@ -45,13 +45,13 @@ a30a002000186400 | 256 64 | 8 | {10: 0, -1: 0, 100: 0}
 fn columns_of(line: &str) -> Option<(&str, &str, &str, &str)> {
     let (digits, rest) = line.split_once('|')?;
     let (limits, rest) = rest.split_once('|')?;
-    let (answer, _) = rest.split_once('|')?;
+    let (outcome, _) = rest.split_once('|')?;
     let (depth, bytes) = limits.trim().split_once(' ')?;
-    Some((digits.trim(), depth, bytes, answer.trim()))
+    Some((digits.trim(), depth, bytes, outcome.trim()))
 }
 
-fn result_text(alloc: Global, answer: Result<u64, Refusal>) -> Result<String, AllocError> {
-    match answer {
+fn result_text(alloc: Global, outcome: Result<u64, Refusal>) -> Result<String, AllocError> {
+    match outcome {
         Ok(count) => format!(in alloc; "{count}"),
         Err(refusal) => format!(in alloc; "{refusal}, read {}", refusal.read),
     }
@@ -70,9 +70,9 @@ fn checks_slices(rt: HostRuntime) -> Result<(), Fail> {
                 bytes.parse().map_err(|_| "bytes")?,
             )
             .ok_or("limits")?;
-            let answer = check_canonical(&hex::decode(rt.alloc(), digits)?, limits, order);
+            let outcome = check_canonical(&hex::decode(rt.alloc(), digits)?, limits, order);
             assert!(rt;
-                result_text(rt.alloc(), answer)?.as_str() == wanted,
+                result_text(rt.alloc(), outcome)?.as_str() == wanted,
                 "{line}"
             );
         }
@@ -93,8 +93,8 @@ fn checks_deep_slices(rt: HostRuntime) -> Result<(), Fail> {
 
 // Checks that this is the result in the bytewise order.
 fn look_for(rt: &impl Abort, bytes: &[u8], depth: u16, most: u64, wanted: Result<u64, Refusal>) {
-    let answer = check_canonical(bytes, limits(rt, depth, most), KeyOrder::Bytewise);
-    assert!(rt; answer == wanted, "at {bytes:?}");
+    let outcome = check_canonical(bytes, limits(rt, depth, most), KeyOrder::Bytewise);
+    assert!(rt; outcome == wanted, "at {bytes:?}");
 }
 
 // A map of two texts of this length, "aa.." except for their last bytes, each with the value 0.

@@ -59,9 +59,9 @@ fn reads_trees(rt: HostRuntime) -> Result<(), Fail> {
     for row in &rows(rt.alloc())? {
         for way in [0, row.input.len()] {
             let mut reader = Cut::in_way(&row.input, way);
-            let answer = read_tree(rt.alloc(), &mut reader, row.limits);
+            let outcome = read_tree(rt.alloc(), &mut reader, row.limits);
             let taken = reader.taken(&row.input) as u64;
-            let is_right = is_read_right(rt.alloc(), row, answer, taken)?;
+            let is_right = is_read_right(rt.alloc(), row, outcome, taken)?;
             assert!(rt; is_right, "{}", row.line);
         }
     }
@@ -76,13 +76,13 @@ fn reads_trees_cut_in_two(rt: HostRuntime) -> Result<(), Fail> {
         for way in 1..row.input.len() {
             if row.is_tried_at(way) {
                 let mut reader = Cut::in_way(&row.input, way);
-                let answer = read_tree(rt.alloc(), &mut reader, row.limits);
+                let outcome = read_tree(rt.alloc(), &mut reader, row.limits);
                 let taken = reader.taken(&row.input) as u64;
-                let is_taken = match &answer {
+                let is_taken = match &outcome {
                     Ok((_, count)) => *count == taken,
                     Err(refusal) => refusal.read == taken,
                 };
-                let is_right = is_taken && are_alike(&answer, &whole);
+                let is_right = is_taken && are_alike(&outcome, &whole);
                 assert!(rt; is_right, "{}, cut at {way}", row.line);
             }
         }
@@ -94,14 +94,14 @@ fn reads_trees_cut_in_two(rt: HostRuntime) -> Result<(), Fail> {
 fn reads_views(rt: HostRuntime) -> Result<(), Fail> {
     for row in &rows(rt.alloc())? {
         let arena = Bump::new(rt.alloc());
-        let (answer, taken) = match read_view(rt.alloc(), &row.input, row.limits, &arena) {
+        let (outcome, taken) = match read_view(rt.alloc(), &row.input, row.limits, &arena) {
             Ok((view, count)) => (Ok((view.to_tree(rt.alloc())?, count)), count),
             Err(refusal) => (Err(refusal), refusal.read),
         };
         let mut reader = row.input.as_slice();
         let read = read_tree(rt.alloc(), &mut reader, row.limits);
-        assert!(rt; are_alike(&answer, &read), "{}", row.line);
-        let is_right = is_read_right(rt.alloc(), row, answer, taken)?;
+        assert!(rt; are_alike(&outcome, &read), "{}", row.line);
+        let is_right = is_read_right(rt.alloc(), row, outcome, taken)?;
         assert!(rt; is_right, "{}", row.line);
     }
     Ok(())
@@ -146,11 +146,11 @@ fn are_alike(left: &Result<(Tree, u64), Refusal>, right: &Result<(Tree, u64), Re
 fn is_read_right(
     alloc: Global,
     row: &Row,
-    answer: Result<(Tree, u64), Refusal>,
+    outcome: Result<(Tree, u64), Refusal>,
     taken: u64,
 ) -> Result<bool, Fail> {
     let wanted = by_order(row.plain, KeyOrder::Bytewise);
-    let (tree, count) = match answer {
+    let (tree, count) = match outcome {
         Ok(read) => read,
         Err(refusal) => {
             let text = text_of(alloc, refusal)?;
@@ -234,6 +234,6 @@ fn compares(rt: HostRuntime) -> Result<(), Fail> {
 fn pair_of(line: &str) -> Option<(&str, &str, &str)> {
     let (left, rest) = line.split_once('|')?;
     let (right, rest) = rest.split_once('|')?;
-    let (answer, _) = rest.split_once('|')?;
-    Some((left.trim(), right.trim(), answer.trim()))
+    let (outcome, _) = rest.split_once('|')?;
+    Some((left.trim(), right.trim(), outcome.trim()))
 }

@@ -121,7 +121,7 @@ fn limits_of(column: &str) -> Option<Limits> {
 // The number after a word; the default if the word is missing.
 fn number_after(column: &str, word: &str, otherwise: u64) -> Option<u64> {
     match column.split_once(word) {
-        Some((_, behind)) => behind.split_whitespace().next()?.parse::<u64>().ok(),
+        Some((_, following)) => following.split_whitespace().next()?.parse::<u64>().ok(),
         None => Some(otherwise),
     }
 }

@@ -11,19 +11,19 @@ fn reads_strictly(rt: HostRuntime) -> Result<(), Fail> {
     for row in &rows(rt.alloc())? {
         for &order in &ORDERS {
             let wanted = strict_text(rt.alloc(), row, order)?;
-            let answer = check_canonical(&row.input, row.limits, order);
-            let taken = match answer {
+            let outcome = check_canonical(&row.input, row.limits, order);
+            let taken = match outcome {
                 Ok(count) => count,
                 Err(refusal) => refusal.read,
             };
-            let is_right = is_strict_right(rt.alloc(), wanted.as_str(), answer, taken)?;
+            let is_right = is_strict_right(rt.alloc(), wanted.as_str(), outcome, taken)?;
             assert!(rt; is_right, "{}", row.line);
             for way in 0..=row.input.len() {
                 if row.is_tried_at(way) {
                     let mut reader = Cut::in_way(&row.input, way);
-                    let answer = read_strict(rt.alloc(), &mut reader, row.limits, order);
+                    let outcome = read_strict(rt.alloc(), &mut reader, row.limits, order);
                     let taken = reader.taken(&row.input) as u64;
-                    let is_right = is_strict_right(rt.alloc(), wanted.as_str(), answer, taken)?;
+                    let is_right = is_strict_right(rt.alloc(), wanted.as_str(), outcome, taken)?;
                     assert!(rt; is_right, "{}", row.line);
                 }
             }
@@ -42,7 +42,7 @@ fn last_of(
 ) -> Option<Result<u64, Refusal>> {
     let mut events = StrictReader::new(alloc, reader, limits, order);
     for _ in 0..10_000 {
-        let answer = match events.next() {
+        let outcome = match events.next() {
             Ok(Some(_)) => None,
             Ok(None) => Some(Ok(events.taken())),
             Err(refusal) => Some(Err(refusal)),
@@ -50,7 +50,7 @@ fn last_of(
         if events.spans() > events.open() || events.kept() > events.taken() {
             return None;
         }
-        if let Some(last) = answer {
+        if let Some(last) = outcome {
             let again = match events.next() {
                 Ok(Some(_)) => None,
                 Ok(None) => Some(Ok(events.taken())),
@@ -69,11 +69,11 @@ fn reports_strict_events(rt: HostRuntime) -> Result<(), Fail> {
             let wanted = strict_text(rt.alloc(), row, order)?;
             for way in [0, row.input.len()] {
                 let mut reader = Cut::in_way(&row.input, way);
-                let Some(answer) = last_of(rt.alloc(), &mut reader, row.limits, order) else {
+                let Some(outcome) = last_of(rt.alloc(), &mut reader, row.limits, order) else {
                     return Err(Fail::from("events that do not end"));
                 };
                 let taken = reader.taken(&row.input) as u64;
-                let is_right = is_strict_right(rt.alloc(), wanted.as_str(), answer, taken)?;
+                let is_right = is_strict_right(rt.alloc(), wanted.as_str(), outcome, taken)?;
                 assert!(rt; is_right, "{}", row.line);
             }
         }
@@ -86,10 +86,10 @@ fn reports_strict_events(rt: HostRuntime) -> Result<(), Fail> {
 fn is_strict_right(
     alloc: Global,
     wanted: &str,
-    answer: Result<u64, Refusal>,
+    outcome: Result<u64, Refusal>,
     taken: u64,
 ) -> Result<bool, AllocError> {
-    match answer {
+    match outcome {
         Ok(count) => {
             let text = format!(in alloc; "taken {count}")?;
             Ok(text.as_str() == wanted && count == taken)

@@ -15,9 +15,9 @@ use std::test::Fail;
 fn plain_calls_refuse(alloc: Global, input: &[u8], limits: Limits, refusal: Refusal) -> bool {
     for part in [1, usize::MAX] {
         let mut reader = Parts { rest: input, part };
-        let answer = read_tree(alloc, &mut reader, limits);
+        let outcome = read_tree(alloc, &mut reader, limits);
         let left = reader.rest.len() as u64;
-        if answer.err() != Some(refusal)
+        if outcome.err() != Some(refusal)
             || left.checked_add(refusal.read) != Some(input.len() as u64)
         {
             return false;
@@ -33,9 +33,9 @@ fn strict_calls_refuse(alloc: Global, input: &[u8], limits: Limits, refusal: Ref
     for order in [KeyOrder::Bytewise, KeyOrder::LengthFirst] {
         for part in [1, usize::MAX] {
             let mut reader = Parts { rest: input, part };
-            let answer = read_strict(alloc, &mut reader, limits, order);
+            let outcome = read_strict(alloc, &mut reader, limits, order);
             let left = reader.rest.len() as u64;
-            if answer != Err(refusal)
+            if outcome != Err(refusal)
                 || left.checked_add(refusal.read) != Some(input.len() as u64)
             {
                 return false;

@@ -57,15 +57,15 @@ impl Read for Stumbling<'_> {
 }
 
 // A result of `read_tree` with the size alone.
-fn counted(answer: Result<(Tree, u64), Refusal>) -> Result<u64, Refusal> {
-    match answer {
+fn counted(outcome: Result<(Tree, u64), Refusal>) -> Result<u64, Refusal> {
+    match outcome {
         Ok((_tree, count)) => Ok(count),
         Err(refusal) => Err(refusal),
     }
 }
 
-fn taken(answer: Result<u64, Refusal>) -> u64 {
-    match answer {
+fn taken(outcome: Result<u64, Refusal>) -> u64 {
+    match outcome {
         Ok(count) => count,
         Err(refusal) => refusal.read,
     }
@@ -87,7 +87,7 @@ fn expected(usual: Result<u64, Refusal>, place: u64) -> Result<u64, Refusal> {
 }
 
 // The result of a call by the plain rules, or by the strict rules in an order.
-fn answer<R: Read>(
+fn outcome<R: Read>(
     alloc: Global,
     reader: &mut R,
     limits: Limits,
@@ -110,7 +110,7 @@ fn reports_failure(
 ) -> bool {
     for way in 0..2 {
         let mut reader = Stumbling::in_way(&row.input, way, place);
-        let given = answer(alloc, &mut reader, row.limits, order);
+        let given = outcome(alloc, &mut reader, row.limits, order);
         let left = reader.rest.len() as u64;
         if given != expected(usual, place as u64)
             || left.checked_add(taken(given)) != Some(row.input.len() as u64)
@@ -123,7 +123,7 @@ fn reports_failure(
 
 // The first offset at which such a call does not report a failure as expected, if there is one.
 fn unreported(alloc: Global, row: &Row, order: Option<KeyOrder>) -> Option<usize> {
-    let usual = answer(alloc, &mut row.input.as_slice(), row.limits, order);
+    let usual = outcome(alloc, &mut row.input.as_slice(), row.limits, order);
     for place in 0..=row.input.len() {
         if row.is_tried_at(place) && !reports_failure(alloc, row, order, usual, place) {
             return Some(place);
@@ -168,7 +168,7 @@ fn reports_a_failure_of_strict_reading(rt: HostRuntime) -> Result<(), Fail> {
 #[test]
 fn ends_a_sequence_at_each_offset(rt: HostRuntime) -> Result<(), Fail> {
     for row in &rows(rt.alloc())? {
-        let plain = answer(rt.alloc(), &mut row.input.as_slice(), row.limits, None);
+        let plain = outcome(rt.alloc(), &mut row.input.as_slice(), row.limits, None);
         for place in 0..=row.input.len() {
             if row.is_tried_at(place) && (place as u64) < taken(plain) {
                 let is_ended = ends_a_sequence(rt.alloc(), &row.input, row.limits, place);

@@ -26,18 +26,18 @@ fn nested(alloc: Global, head: &[u8]) -> Result<Vec<u8>, AllocError> {
 fn is_cut_short(alloc: Global, input: &[u8], limits: Limits) -> bool {
     let refusal = Refusal::at(Reason::Truncated, input.len() as u64);
     let read = read_tree(alloc, &mut &input[..], limits);
-    let mut answers = same_meaning(alloc, input, input, limits).is_err_and(|e| e.1 == refusal)
+    let mut returned = same_meaning(alloc, input, input, limits).is_err_and(|e| e.1 == refusal)
         && read.err() == Some(refusal);
     for order in [KeyOrder::Bytewise, KeyOrder::LengthFirst] {
         let strict = read_strict(alloc, &mut &input[..], limits, order);
         let checked = check_canonical(input, limits, order);
         let canonical = canonicalise(alloc, input, limits, order);
-        answers = answers
+        returned = returned
             && strict == Err(refusal)
             && checked == Err(refusal)
             && canonical == Err(refusal);
     }
-    answers
+    returned
 }
 
 #[test]

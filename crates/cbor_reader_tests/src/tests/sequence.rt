@@ -28,10 +28,10 @@ static RUNS: &str = "
 // Whether a result is the tree with these canonical bytes.
 fn is_tree(
     alloc: Global,
-    answer: Option<Result<Tree, Refusal>>,
+    outcome: Option<Result<Tree, Refusal>>,
     canonical: &[u8],
 ) -> Result<bool, AllocError> {
-    match answer {
+    match outcome {
         Some(Ok(tree)) => match encode(alloc, &tree, KeyOrder::Bytewise) {
             Ok(bytes) => Ok(bytes.as_slice() == canonical),
             Err(_) => Err(AllocError),
@@ -41,8 +41,8 @@ fn is_tree(
 }
 
 // The refusal of a result; none for any other result.
-fn refused<T: Drop>(answer: Option<Result<T, Refusal>>) -> Option<Refusal> {
-    match answer {
+fn refused<T: Drop>(outcome: Option<Result<T, Refusal>>) -> Option<Refusal> {
+    match outcome {
         Some(Err(refusal)) => Some(refusal),
         _ => None,
     }

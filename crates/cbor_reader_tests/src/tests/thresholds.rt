@@ -56,11 +56,11 @@ fn push_three(
     bytes: &mut Vec<u8>,
     before: u8,
     content: &[u8],
-    behind: &[u8],
+    following: &[u8],
 ) -> Result<(), AllocError> {
     bytes.push(before)?;
     bytes.extend_from_slice(content)?;
-    bytes.extend_from_slice(behind)
+    bytes.extend_from_slice(following)
 }
 
 // The map from the string to 0.
@@ -228,15 +228,15 @@ fn turned_maps_of_each_size(rt: HostRuntime) -> Result<(), AllocError> {
 }
 
 // This number of letters and these bytes, as a text of this length.
-fn push_text(bytes: &mut Vec<u8>, size: u32, length: u32, behind: &[u8]) -> Result<(), AllocError> {
+fn push_text(bytes: &mut Vec<u8>, size: u32, length: u32, following: &[u8]) -> Result<(), AllocError> {
     push_head(bytes, 0x60, length)?;
     push_times(bytes, b'a', size)?;
-    bytes.extend_from_slice(behind)
+    bytes.extend_from_slice(following)
 }
 
-fn text_of(alloc: Global, size: u32, length: u32, behind: &[u8]) -> Result<Vec<u8>, AllocError> {
+fn text_of(alloc: Global, size: u32, length: u32, following: &[u8]) -> Result<Vec<u8>, AllocError> {
     let mut bytes = Vec::new(alloc);
-    push_text(&mut bytes, size, length, behind)?;
+    push_text(&mut bytes, size, length, following)?;
     Ok(bytes)
 }
 
@@ -244,10 +244,10 @@ fn text_of(alloc: Global, size: u32, length: u32, behind: &[u8]) -> Result<Vec<u
 fn is_refused(alloc: Global, input: &[u8], limits: Limits, refusal: Refusal) -> bool {
     for part in [1, 512, 513] {
         let mut reader = Parts { rest: input, part };
-        let answer = read_tree(alloc, &mut reader, limits);
+        let outcome = read_tree(alloc, &mut reader, limits);
         let mut reader = Parts { rest: input, part };
         let strict = read_strict(alloc, &mut reader, limits, KeyOrder::Bytewise);
-        if answer.err() != Some(refusal) || strict != Err(refusal) {
+        if outcome.err() != Some(refusal) || strict != Err(refusal) {
             return false;
         }
     }

@@ -5,10 +5,10 @@ use Rattle.cbor_head.specs.declared.{keys.Keys.Keys, keys.Keys.TheVariants.Integ
 use Rattle.theory_values.specs.FirstBytes.{is_basic}
 use Rattle.theory_automaton.specs.{Trace.Mark, Marks.marks_of}
 use Rattle.cbor_machine.specs.declared.step.Out.TheVariants as outs
-use Rattle.cbor_machine.specs.Machine.{StandsFor, IsComplete, IsGiven}
-use Rattle.cbor_machine.specs.{NextEvent.ItemEventsView, NextEvent.StandsBetween, MachineView.MachineView, declared.step.Out.Out}
+use Rattle.cbor_machine.specs.Machine.{Represents, IsComplete, IsGiven}
+use Rattle.cbor_machine.specs.{NextEvent.ItemEventsView, NextEvent.AgreesBetween, MachineView.MachineView, declared.step.Out.Out}
 use Rattle.theory_verdicts.specs.{Kinds.KeepsToKinds, Kinds.HasBasicPrefix, Readers.IsUnread, Refusals.IsReaderReason}
-use Rattle.cbor_strict.specs.{inner.LastKeys.view_value, inner.OpenItems.Stands, declared.last_keys.Expected.Expected}
+use Rattle.cbor_strict.specs.{inner.LastKeys.view_value, inner.OpenItems.Agrees, declared.last_keys.Expected.Expected}
 use Rattle.cbor_strict.specs.declared.{last_keys.Expected.TheVariants.Member, last_keys.Expected.TheVariants.Key, open_items.OpenItems.OpenItems}
 use Rattle.cbor_stream.specs.Reasons.{IsStrictReason}
 
@@ -41,11 +41,11 @@ pub record IsAmid (m : MachineView) (v : OpenItems) (b : Bounds) (t : List ℕ) 
   pub before : List ℕ
   pub since : List ℕ
   pub splits : t ≡ before ++ since
-  pub between : StandsBetween began.machine before ms
-  pub led : (u : List ℕ) (ns : List Mark) → StandsFor began.machine u ns → StandsFor m (u ++ since) ns
+  pub between : AgreesBetween began.machine before ms
+  pub led : (u : List ℕ) (ns : List Mark) → Represents began.machine u ns → Represents m (u ++ since) ns
   pub depth : m.depth ≡ began.machine.depth
   pub bytes : m.bytes ≡ began.machine.bytes
-  pub stands : Stands v b began before
+  pub agrees : Agrees v b began before
   pub keeps : KeepsToKinds b (strict v.order) before
   -- the kind of a key was judged by its first byte
   pub kind : asks_of b.keys v ≡ true → HasBasicPrefix since
@@ -89,11 +89,11 @@ pub record IsRefusedNow (f : Refusal) (v : OpenItems) (b : Bounds) (all : List �
   pub unread : (more : List ℕ) → IsUnread b (strict v.order) (all ++ more) f
 
 -- what a step returns that used bs
-abbrev pub IsStepAnswer : Out → MachineView → OpenItems → Bounds → List ℕ → List ℕ → List Mark → Type 0
-IsStepAnswer outs.More m v b t bs ms = IsAmid m v b (t ++ bs) ms
-IsStepAnswer (outs.Event e) m v b t bs ms = IsGiven e m t bs ms × IsAmid m v b (t ++ bs) (ms ++ marks_of e.width e.kind)
-IsStepAnswer outs.Done m v b t bs ms = (bs ≡ []) × IsComplete m × IsAmid m v b t ms
-IsStepAnswer (outs.Refused f) m v b t bs ms = IsRefusedNow f v b (t ++ bs)
+abbrev pub IsStepResult : Out → MachineView → OpenItems → Bounds → List ℕ → List ℕ → List Mark → Type 0
+IsStepResult outs.More m v b t bs ms = IsAmid m v b (t ++ bs) ms
+IsStepResult (outs.Event e) m v b t bs ms = IsGiven e m t bs ms × IsAmid m v b (t ++ bs) (ms ++ marks_of e.width e.kind)
+IsStepResult outs.Done m v b t bs ms = (bs ≡ []) × IsComplete m × IsAmid m v b t ms
+IsStepResult (outs.Refused f) m v b t bs ms = IsRefusedNow f v b (t ++ bs)
 
 -- ---- what leads from one step to the next
 

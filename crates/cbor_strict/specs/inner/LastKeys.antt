@@ -29,9 +29,9 @@ is_key (a_key w a v b) = true
 is_key _ = false
 
 -- the item in the innermost container is in a key that is not complete
-abbrev pub stands_in_key : List Frame → Bool
-stands_in_key [] = false
-stands_in_key (f ∷ fs) = if is_key f then true else stands_in_key fs
+abbrev pub within_key : List Frame → Bool
+within_key [] = false
+within_key (f ∷ fs) = if is_key f then true else within_key fs
 
 -- the number of such keys
 abbrev pub keys_around : List Frame → ℕ
@@ -62,7 +62,7 @@ complete_key _ = []
 -- up to the first key that is not complete; and all of that key.
 abbrev pub kept_bytes : List Frame → List ℕ → List ℕ
 kept_bytes [] p = []
-kept_bytes (f ∷ fs) p = if stands_in_key fs then kept_bytes fs (before f ++ p) else kept_bytes fs [] ++ (complete_key f ++ (if is_key f then p else []))
+kept_bytes (f ∷ fs) p = if within_key fs then kept_bytes fs (before f ++ p) else kept_bytes fs [] ++ (complete_key f ++ (if is_key f then p else []))
 
 -- the number of stored bytes before those of a container
 abbrev pub kept_before : List Frame → ℕ
@@ -74,11 +74,11 @@ span from to next = record { from = from; to = to; next = next }
 -- where the last complete key of the innermost map is, and where the next one begins
 abbrev pub spans_in : Frame → List Frame → List KeySpan
 spans_in (a_content w a k b) fs =
-    let from = kept_before fs + (if stands_in_key fs then length (head Map w (entries_count a + suc (entries_count b)) ++ spell_entries a) else 0) in
+    let from = kept_before fs + (if within_key fs then length (head Map w (entries_count a + suc (entries_count b)) ++ spell_entries a) else 0) in
     span from (from + length (spell k)) (from + length (spell k)) ∷ []
 spans_in (a_key w a v b) fs =
-    let from = kept_before fs + (if stands_in_key fs then length (head Map w (entries_count a + suc (entries_count b))) + before_last a else 0) in
-    span from (from + length (last_key a)) (kept_before fs + (if stands_in_key fs then length (before (a_key w a v b)) else length (last_key a))) ∷ []
+    let from = kept_before fs + (if within_key fs then length (head Map w (entries_count a + suc (entries_count b))) + before_last a else 0) in
+    span from (from + length (last_key a)) (kept_before fs + (if within_key fs then length (before (a_key w a v b)) else length (last_key a))) ∷ []
 spans_in _ fs = []
 
 abbrev pub spans_of : List Frame → List KeySpan
@@ -138,8 +138,8 @@ pub record HasKeyEnded (k : KeysView) : Type 0 where
   pub kept : IsKept k (a_key w a v b ∷ fs) (spell s)
 
 -- it comes after the one before, and replaces it; or it does not, and the error is its number of bytes
-abbrev pub AnswersKeyEnd : KeyOrder → KeysView → KeysView → Result (Unit {0}) ℕ → Type 0
-AnswersKeyEnd o old new result =
+abbrev pub ReturnsKeyEnd : KeyOrder → KeysView → KeysView → Result (Unit {0}) ℕ → Type 0
+ReturnsKeyEnd o old new result =
     (w : Width) (a : SpelledEntries) (v : Spelling) (b : SpelledEntries) (fs : List Frame) (s : Spelling) → IsKept old (a_key w a v b ∷ fs) (spell s)
     → MatchResult result
     (λ u. IsTrue (key_lt o (last_key a) (spell s)) × IsKept new (a_content w a s b ∷ fs) [])

@@ -72,12 +72,12 @@ pub record IsOver (v : OpenItems) (b : Bounds) (e : ItemEventsView) (t : List �
   pub taken : t ≡ spell item
   pub at : IsAt b e t at_end
 
-abbrev pub Stands : OpenItems → Bounds → ItemEventsView → List ℕ → Type 0
-Stands v b e t = IsItemExpected v b e t ⊎ IsInString v b e t ⊎ IsOver v b e t
+abbrev pub Agrees : OpenItems → Bounds → ItemEventsView → List ℕ → Type 0
+Agrees v b e t = IsItemExpected v b e t ⊎ IsInString v b e t ⊎ IsOver v b e t
 
 -- the result of a check of these bytes is right
-abbrev pub Answers : Rules → OpenItems → Bounds → ItemEventsView → List ℕ → Result (Unit {0}) Refusal → Type 0
-Answers r new b e t result = MatchResult result (λ u. Stands new b e t) (λ f. (to : Option (List ℕ)) → AreRefused r b t to f)
+abbrev pub IsRightResult : Rules → OpenItems → Bounds → ItemEventsView → List ℕ → Result (Unit {0}) Refusal → Type 0
+IsRightResult r new b e t result = MatchResult result (λ u. Agrees new b e t) (λ f. (to : Option (List ℕ)) → AreRefused r b t to f)
 
 -- an item has ended in the innermost container; the containers that are complete with it are still open
 pub record HasEnded (v : OpenItems) (b : Bounds) (e : ItemEventsView) (t : List ℕ) : Type 0 where
@@ -101,10 +101,10 @@ pub record IsItemEnded (v : OpenItems) (count taken : ℕ) : Type 0 where
   pub counted : count ≡ e.machine.open_count
   pub all : taken ≡ e.machine.taken
 
-abbrev pub AnswersEnd : OpenItems → OpenItems → ℕ → ℕ → Result (Unit {0}) Refusal → Type 0
-AnswersEnd old new count taken result =
+abbrev pub ReturnsEnd : OpenItems → OpenItems → ℕ → ℕ → Result (Unit {0}) Refusal → Type 0
+ReturnsEnd old new count taken result =
     (b : Bounds) (e : ItemEventsView) (t : List ℕ) → HasEnded old b e t → count ≡ e.machine.open_count → taken ≡ e.machine.taken
-    → Answers (strict old.order) new b e t result
+    → IsRightResult (strict old.order) new b e t result
 
 -- the head of the item that is expected was read: its bytes are x
 pub record HasHeadCome (v : OpenItems) (b : Bounds) (event : Event) (t x : List ℕ) (e : ItemEventsView) : Type 0 where
@@ -128,10 +128,10 @@ pub record IsHeadCome (v : OpenItems) (event : Event) (count taken : ℕ) : Type
   pub counted : count ≡ e.machine.open_count
   pub all : taken ≡ e.machine.taken
 
-abbrev pub AnswersHead : OpenItems → OpenItems → Event → ℕ → ℕ → Result (Unit {0}) Refusal → Type 0
-AnswersHead old new event count taken result =
+abbrev pub ReturnsHead : OpenItems → OpenItems → Event → ℕ → ℕ → Result (Unit {0}) Refusal → Type 0
+ReturnsHead old new event count taken result =
     (b : Bounds) (t x : List ℕ) (e : ItemEventsView) → HasHeadCome old b event t x e → count ≡ e.machine.open_count → taken ≡ e.machine.taken
-    → Answers (strict old.order) new b e (t ++ x) result
+    → IsRightResult (strict old.order) new b e (t ++ x) result
 
 -- all but the keys is unchanged
 pub record IsSameString (old new : OpenItems) : Type 0 where
@@ -186,10 +186,10 @@ pub record IsBegunIn (v : OpenItems) (m : Major) (n : ℕ) (count taken : ℕ) :
   pub counted : count ≡ e.machine.open_count
   pub all : taken ≡ e.machine.taken
 
-abbrev pub AnswersBegun : OpenItems → OpenItems → Major → ℕ → ℕ → ℕ → Result (Unit {0}) Refusal → Type 0
-AnswersBegun old new m n count taken result =
+abbrev pub ReturnsBegun : OpenItems → OpenItems → Major → ℕ → ℕ → ℕ → Result (Unit {0}) Refusal → Type 0
+ReturnsBegun old new m n count taken result =
     (b : Bounds) (w : Width) (kind : EventKind) (t x : List ℕ) (e : ItemEventsView) → mark_of w kind ≡ a_head m w n → HasBegunIn old b w kind t x e → count ≡ e.machine.open_count → taken ≡ e.machine.taken
-    → Answers (strict old.order) new b e (t ++ x) result
+    → IsRightResult (strict old.order) new b e (t ++ x) result
 
 -- a part of the payload was read
 pub record HasPartCome (v : OpenItems) (b : Bounds) (old : ItemEventsView) (t x : List ℕ) (e : ItemEventsView) : Type 0 where
@@ -208,10 +208,10 @@ pub record IsPartCome (v : OpenItems) (x : List ℕ) (count taken : ℕ) : Type 
   pub counted : count ≡ e.machine.open_count
   pub all : taken ≡ e.machine.taken
 
-abbrev pub AnswersPart : OpenItems → OpenItems → List ℕ → ℕ → ℕ → Result (Unit {0}) Refusal → Type 0
-AnswersPart v new x count taken result =
+abbrev pub ReturnsPart : OpenItems → OpenItems → List ℕ → ℕ → ℕ → Result (Unit {0}) Refusal → Type 0
+ReturnsPart v new x count taken result =
     (b : Bounds) (old : ItemEventsView) (t : List ℕ) (e : ItemEventsView) → HasPartCome v b old t x e → count ≡ e.machine.open_count → taken ≡ e.machine.taken
-    → Answers (strict v.order) new b e (t ++ x) result
+    → IsRightResult (strict v.order) new b e (t ++ x) result
 
 -- the first for a part of a payload, the second for another event
 abbrev pub by_kind : EventKind → Type 0 → Type 0 → Type 0
@@ -222,5 +222,5 @@ by_kind kind P H = H
 abbrev pub IsEventCome : OpenItems → Event → List ℕ → ℕ → ℕ → Type 0
 IsEventCome v event piece count taken = by_kind event.kind (IsPartCome v piece count taken) (IsHeadCome v event count taken)
 
-abbrev pub AnswersEvent : OpenItems → OpenItems → Event → List ℕ → ℕ → ℕ → Result (Unit {0}) Refusal → Type 0
-AnswersEvent old new event piece count taken result = by_kind event.kind (AnswersPart old new piece count taken result) (AnswersHead old new event count taken result)
+abbrev pub ReturnsEvent : OpenItems → OpenItems → Event → List ℕ → ℕ → ℕ → Result (Unit {0}) Refusal → Type 0
+ReturnsEvent old new event piece count taken result = by_kind event.kind (ReturnsPart old new piece count taken result) (ReturnsHead old new event count taken result)

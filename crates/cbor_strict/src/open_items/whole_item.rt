@@ -6,7 +6,7 @@ ghost use Rattle.cbor_head.specs.Complaint.{strict};
 ghost use Rattle.cbor_machine.specs.NextEvent.{ItemEventsView};
 ghost use Rattle.theory_verdicts.specs.Readers.{IsRead};
 ghost use Rattle.cbor_strict.specs.inner.LastKeys.{view_value};
-ghost use Rattle.cbor_strict.specs.inner.OpenItems.{HasEnded, Stands};
+ghost use Rattle.cbor_strict.specs.inner.OpenItems.{HasEnded, Agrees};
 ghost use Rattle.cbor_strict.specs.inner.WholeItem.{IsWholeEnded};
 
 use super::OpenItems;
@@ -40,8 +40,8 @@ impl OpenItems {
     pub fn end_whole_item(&mut self, open: usize)
         requires { IsWholeEnded self.old «open» }
         ensures order { self.new.order ≡ self.old.order }
-        ensures stands { (b : Bounds) (e : ItemEventsView) (t : List ℕ) → HasEnded self.old b e t
-            → «open» ≡ e.machine.open_count → Stands self.new b e t }
+        ensures agrees { (b : Bounds) (e : ItemEventsView) (t : List ℕ) → HasEnded self.old b e t
+            → «open» ≡ e.machine.open_count → Agrees self.new b e t }
     {
         self.keys.close(open);
         if let Expected::Value = self.keys.expected() {

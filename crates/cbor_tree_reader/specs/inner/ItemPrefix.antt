@@ -7,7 +7,7 @@ use Rattle.cbor_machine.specs.{NextEvent.ItemEventsView, NextKey.IsBasicKind}
 use Rattle.theory_verdicts.specs.Kinds.{AsksForKinds, KeepsToKinds, IsKeyExpectedIn}
 use Rattle.theory_verdicts.specs.Place.{at_item, done as at_end}
 use Rattle.theory_verdicts.specs.Levels.{IsTaken, Level, frame, AreLevels, bytes_before, item_expected, item_whole}
-use Rattle.theory_verdicts.specs.{Given.opens, Reading.IsAt, Reading.IsNextHead, RefusedBehind.IsRefusedBehind}
+use Rattle.theory_verdicts.specs.{Given.opens, Reading.IsAt, Reading.IsNextHead, RefusedAfter.IsRefusedAfter}
 use Rattle.cbor_tree_reader.specs.inner.TreeItems.{AreApart, HaveBegun, sets}
 use Rattle.cbor_tree_reader.specs.{declared.tree_items.TreeItems.TreeItems, inner.HeldKeys.AreHeld, TreeValues.IsTreeAt}
 
@@ -48,7 +48,7 @@ pub record TakesNext (more : Bool) (v : TreeItems) (b : Bounds) (e : ItemEventsV
   pub bytes : List ℕ
   pub some : 0 < length bytes
   pub consumed : Consumes from to bytes
-  pub stands : GoesOnOrNot more v b e (t ++ bytes)
+  pub agrees : GoesOnOrNot more v b e (t ++ bytes)
 
 -- the next event is the head of the item that is expected, or a break; for a key whose kind is judged, it is the
 -- head of an integer or a text
@@ -56,18 +56,18 @@ pub record IsNextExpected (b : Bounds) (ls : List Level) (t : List ℕ) (e : Eve
   pub head : IsNextHead plain b (at_item (map frame ls)) t e from to new
   pub kind : AsksForKinds b plain → IsKeyExpectedIn ls → IsBasicKind e.kind
 
-abbrev pub AnswersExpected : TreeItems → ItemEventsView → Option (List ℕ) → Option (List ℕ) → ItemEventsView → Result Event Refusal → Type 0
-AnswersExpected v e from to new result =
+abbrev pub ReturnsExpected : TreeItems → ItemEventsView → Option (List ℕ) → Option (List ℕ) → ItemEventsView → Result Event Refusal → Type 0
+ReturnsExpected v e from to new result =
     (b : Bounds) (t : List ℕ) → (d : IsExpectedAt v b e t)
-    → MatchResult result (λ event. IsNextExpected b d.ls t event from to new) (λ f. IsRefusedBehind plain b t from to f)
+    → MatchResult result (λ event. IsNextExpected b d.ls t event from to new) (λ f. IsRefusedAfter plain b t from to f)
 
-abbrev pub AnswersNextPart : TreeItems → TreeItems → ItemEventsView → ItemEventsView → Option (List ℕ) → Option (List ℕ) → Result Bool Refusal → Type 0
-AnswersNextPart old new e after from to result =
+abbrev pub ReturnsNextPart : TreeItems → TreeItems → ItemEventsView → ItemEventsView → Option (List ℕ) → Option (List ℕ) → Result Bool Refusal → Type 0
+ReturnsNextPart old new e after from to result =
     (b : Bounds) (t : List ℕ) → IsExpectedAt old b e t
-    → MatchResult result (λ more. TakesNext more new b after t from to) (λ f. IsRefusedBehind plain b t from to f)
+    → MatchResult result (λ more. TakesNext more new b after t from to) (λ f. IsRefusedAfter plain b t from to f)
 
 -- the remaining parts were read, or one is refused
-abbrev pub AnswersParts : TreeItems → TreeItems → ItemEventsView → ItemEventsView → Option (List ℕ) → Option (List ℕ) → Result (Unit {0}) Refusal → Type 0
-AnswersParts old new e after from to result =
+abbrev pub ReturnsParts : TreeItems → TreeItems → ItemEventsView → ItemEventsView → Option (List ℕ) → Option (List ℕ) → Result (Unit {0}) Refusal → Type 0
+ReturnsParts old new e after from to result =
     (b : Bounds) (t : List ℕ) → IsExpectedAt old b e t
-    → MatchResult result (λ u. TakesNext false new b after t from to) (λ f. IsRefusedBehind plain b t from to f)
+    → MatchResult result (λ u. TakesNext false new b after t from to) (λ f. IsRefusedAfter plain b t from to f)

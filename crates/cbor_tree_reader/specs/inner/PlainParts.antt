@@ -61,13 +61,13 @@ ReadsPart b fs t x kind old new from to (String is_text content) =
 ReadsPart b fs t x kind old new from to (Begin m n) = Begins kind m n × IsStill old new from to
 ReadsPart b fs t x kind old new from to Break = (kind ≡ kinds.End) × IsStill old new from to
 
-abbrev pub AnswersPart : ItemEventsView → EventKind → Option (List ℕ) → Option (List ℕ) → ItemEventsView → Result ItemPart Refusal → Type 0
-AnswersPart e kind from to new result =
+abbrev pub ReturnsPart : ItemEventsView → EventKind → Option (List ℕ) → Option (List ℕ) → ItemEventsView → Result ItemPart Refusal → Type 0
+ReturnsPart e kind from to new result =
     (b : Bounds) (fs : List Container) (t x : List ℕ) (w : Width) → IsCome b fs t x e w kind
     → MatchResult result (ReadsPart b fs t x kind e new from to) (λ f. BeginsString kind × StopsItem plain b fs t x from to f)
 
 -- the content of a string whose head was read; it is UTF-8 if the string is a text
-abbrev pub AnswersString : Bool → Option ℕ → ItemEventsView → Option (List ℕ) → Option (List ℕ) → ItemEventsView → Result (Vec ℕ Global) Refusal → Type 0
-AnswersString is_text length e from to new result =
+abbrev pub ReturnsString : Bool → Option ℕ → ItemEventsView → Option (List ℕ) → Option (List ℕ) → ItemEventsView → Result (Vec ℕ Global) Refusal → Type 0
+ReturnsString is_text length e from to new result =
     (b : Bounds) (fs : List Container) (t x : List ℕ) (w : Width) → IsBegun plain b fs t x e w (string_kind is_text length)
     → MatchResult result (λ v. ReadsItem plain b fs t x from to new (string_value is_text v.items) × (is_text ≡ true → IsUtf8 v.items)) (λ f. StopsItem plain b fs t x from to f)

@@ -9,7 +9,7 @@ use Rattle.cbor_machine.specs.NextEvent.{ItemEventsView}
 use Rattle.cbor_builder.specs.Built.{Built, built, TakesPart, IsContainer, IsLeaf, IsRepeatedKey}
 use Rattle.theory_verdicts.specs.Levels as levels
 use Rattle.theory_verdicts.specs.Levels.{Level, bytes_before, ParseState, item_expected, item_full, item_whole}
-use Rattle.theory_verdicts.specs.{Place.Place, Kinds.KeepsToKinds, Given.StandsAt, Reading.IsAt, Reading.string_major}
+use Rattle.theory_verdicts.specs.{Place.Place, Kinds.KeepsToKinds, Given.AgreesAt, Reading.IsAt, Reading.string_major}
 use Rattle.cbor_tree_reader.specs.declared.item_part.ItemPart.TheVariants.{Leaf, String, Begin, Break}
 use Rattle.cbor_tree_reader.specs.inner.HeldKeys.{HasKeyBytes, AreHeld, AreHeldSoFar}
 use Rattle.cbor_tree_reader.specs.declared.{tree_items.TreeItems.TreeItems, item_part.ItemPart.ItemPart, key_set.KeySet.KeySet}
@@ -51,8 +51,8 @@ pub record AreKeysBegun (count : ℕ) (old new : List KeySet) : Type 0 where
   pub opened : 0 < count → AreKeysOpened old new
 
 -- for a key that has just been completed: it is new, and in its set now; or the offset where it began is returned
-abbrev pub AnswersKey : {E : Type 0} → TreeItems → TreeItems → ℕ → Result (Option ℕ) E → Type 0
-AnswersKey old new count result =
+abbrev pub ReturnsKey : {E : Type 0} → TreeItems → TreeItems → ℕ → Result (Option ℕ) E → Type 0
+ReturnsKey old new count result =
     AreHeldSoFar (sets old) old.builder.open_levels
     → IfOk result (λ o. MatchOption o
     (AreHeld (sets new) new.builder.open_levels × (IsRepeatedKey new.builder.open_levels → ⊥))
@@ -99,7 +99,7 @@ pub record IsEndingAt (v : TreeItems) (b : Bounds) (e : ItemEventsView) (t : Lis
   pub q : Place
   pub at : IsAt b e t q
   pub open_levels : ParseState
-  pub stands : StandsAt v.builder.order b.depth t q v.builder.open_levels height open_levels
+  pub agrees : AgreesAt v.builder.order b.depth t q v.builder.open_levels height open_levels
   pub apart : AreApartSoFar v.builder.open_levels
   pub begun : HaveBegunIn v.starts.items open_levels
   pub place : HasItsPlace v.starts.items open_levels
@@ -115,7 +115,7 @@ pub record IsEnding (v : TreeItems) (height count : ℕ) : Type 0 where
   pub ending : IsEndingAt v b e t height
   pub counted : count ≡ e.machine.open_count
 
-abbrev pub AnswersEnds : {E : Type 0} → TreeItems → TreeItems → ℕ → ℕ → Result (Unit {0}) E → Type 0
-AnswersEnds old new height count result =
+abbrev pub ReturnsEnds : {E : Type 0} → TreeItems → TreeItems → ℕ → ℕ → Result (Unit {0}) E → Type 0
+ReturnsEnds old new height count result =
     (b : Bounds) (e : ItemEventsView) (t : List ℕ) → IsEndingAt old b e t height → count ≡ e.machine.open_count
     → OnOk result (IsEndingAt new b e t e.machine.open_count)

@@ -16,4 +16,4 @@ pub record IsDecided (rules : Rules) (limits : Bounds) (bytes : List ℕ) : Type
 
 -- nothing follows these bytes, or it does not change the verdict on their first item
 abbrev pub IsEnough : Rules → Bounds → List ℕ → List ℕ → Type 0
-IsEnough rules limits bytes behind = (behind ≡ []) ⊎ IsDecided rules limits bytes
+IsEnough rules limits bytes following = (following ≡ []) ⊎ IsDecided rules limits bytes

@@ -64,7 +64,7 @@ pub data AreStoppedOf (takes : Spelling → Type 0) (text : ℕ → Spelling →
   no_input : IsNoInput held source options.hex fault → AreWrittenSoFar takes text options source held before after
       → AreStoppedOf takes text stops options source held before after fault
   -- an item of its prefix is not accepted, and then the input is found to be missing
-  behind_no_input : IsNoInput held source options.hex fault → (prefix : List ℕ) → IsPrefix held source options.hex prefix → (cause : Fault)
+  after_no_input : IsNoInput held source options.hex fault → (prefix : List ℕ) → IsPrefix held source options.hex prefix → (cause : Fault)
       → AreStopped takes text stops options.limits.bytes prefix before after cause → AreStoppedOf takes text stops options source held before after fault
   -- an item is not accepted
   within : (input : List ℕ) → IsInput held source options.hex input → AreStopped takes text stops options.limits.bytes input before after fault

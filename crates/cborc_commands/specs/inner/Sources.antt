@@ -84,9 +84,9 @@ IsNoPart held path s _ = ⊥
 
 -- the input at this path starts with these bytes; if the file ended, they are all of it
 pub record StartsInputAt (held : Option Files) (path : List ℕ) (hex : Bool) (bytes : List ℕ) (ended : Bool) : Type 0 where
-  pub behind : List ℕ
-  pub is : IsInput held path hex (bytes ++ behind)
-  pub end : ended ≡ true → behind ≡ []
+  pub following : List ℕ
+  pub is : IsInput held path hex (bytes ++ following)
+  pub end : ended ≡ true → following ≡ []
 
 -- there is an input that starts with the bytes that were read of the file at this path
 abbrev pub HasInput : Option Files → List ℕ → Source → Type 0

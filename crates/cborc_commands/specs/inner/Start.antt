@@ -9,6 +9,6 @@ use Rattle.cborc_commands.specs.{inner.Decided.IsEnough, Input.IsInput}
 pub record StartsInput (rules : Rules) (held : Option Files) (path : List ℕ) (options : Options) (bytes : List ℕ) : Type 0 where
   pub input : List ℕ
   pub is : IsInput held path options.hex input
-  pub behind : List ℕ
-  pub splits : bytes ++ behind ≡ input
-  pub enough : IsEnough rules options.limits bytes behind
+  pub following : List ℕ
+  pub splits : bytes ++ following ≡ input
+  pub enough : IsEnough rules options.limits bytes following

@@ -16,24 +16,24 @@ static TEXTS: [(&str, &str, u8, &str); 8] = [
 ];
 
 // Each item, the number 100, has five bytes of text, so the first 65,536 end between two digits.
-fn long_text(alloc: Global, prefix: &str, behind: &str) -> Result<String, AllocError> {
+fn long_text(alloc: Global, prefix: &str, following: &str) -> Result<String, AllocError> {
     let items = "1864 ".repeat(alloc, 30_000)?;
     let items = items.as_str();
-    format!(in alloc; "{prefix}{items}{behind}")
+    format!(in alloc; "{prefix}{items}{following}")
 }
 
 #[test]
 fn judges_the_whole(rt: HostRuntime) -> Result<(), AllocError> {
     let alloc = rt.alloc();
-    for &(prefix, behind, status, line) in &TEXTS {
-        let text = long_text(alloc, prefix, behind)?;
+    for &(prefix, following, status, line) in &TEXTS {
+        let text = long_text(alloc, prefix, following)?;
         let ran = ran(alloc, "check --seq --hex in", text.as_str())?;
         let reported = if status == 0 {
             ran.printed(line)
         } else {
             ran.stopped(status, line)
         };
-        assert!(rt; reported, "{prefix} {behind}");
+        assert!(rt; reported, "{prefix} {following}");
     }
     Ok(())
 }
@@ -70,8 +70,8 @@ fn reads_over_white_space(rt: HostRuntime) -> Result<(), AllocError> {
     let space = "\n".repeat(alloc, 200_000)?;
     let space = space.as_str();
     let text = format!(in alloc; "1{space}864 00")?;
-    let behind = ran(alloc, "check --seq --hex in", text.as_str())?;
-    assert!(rt; behind.printed("accepted 2 items"));
+    let following = ran(alloc, "check --seq --hex in", text.as_str())?;
+    assert!(rt; following.printed("accepted 2 items"));
     let alone = ran(alloc, "check --seq --hex in", space)?;
     assert!(rt; alone.printed("accepted 0 items"));
     Ok(())

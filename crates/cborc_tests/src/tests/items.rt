@@ -205,8 +205,8 @@ fn canonical_bytes_have_the_limit_too(rt: HostRuntime) -> Result<(), AllocError>
     assert!(rt; is_accepted(alloc, "--bytes 258", given.as_str())?);
     let refused = ran(alloc, "canon in out --bytes 258", given.as_str())?;
     assert!(rt; refused.stopped(1, "refused 13 CanonicalTooLong at 258"));
-    let behind = format!(in alloc; "00{given}")?;
-    let refused = ran(alloc, "canon --seq in out --bytes 258", behind.as_str())?;
+    let following = format!(in alloc; "00{given}")?;
+    let refused = ran(alloc, "canon --seq in out --bytes 258", following.as_str())?;
     assert!(rt; refused.stopped(1, "item 2 refused 13 CanonicalTooLong at 258"));
     let both = format!(in alloc; "{given} / {given}")?;
     let compared = ran(alloc, "compare a b --bytes 258", both.as_str())?;

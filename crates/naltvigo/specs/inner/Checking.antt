@@ -7,7 +7,7 @@ use Rattle.cbor_reader.specs.{Canonicalise.IsCanonicalOf, WholeItem.IsItemRefusa
 use Rattle.naltvigo.specs.Checking.{HasNoWholePrefix}
 
 -- the input is its own result
-pub record IsOwnAnswer (limits : Bounds) (o : KeyOrder) (input : List ℕ) : Type 0 where
+pub record IsOwnResult (limits : Bounds) (o : KeyOrder) (input : List ℕ) : Type 0 where
   pub own : IsCanonicalOf limits o input input
   pub accepted : IsRead limits (strict o) input (length input)
   pub canonical : IsCanonicalPrefix limits o input (length input)

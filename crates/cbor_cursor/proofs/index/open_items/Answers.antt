@@ -1,7 +1,7 @@
 use Rattle.std.proofs.Common.{arith, refl, ap, set, ◌∙◌}
 use Rattle.cbor_cursor.proofs.IndexHeads.{at_first, at_last, next_expected, next_head, space, then_expected}
 use Rattle.cbor_cursor.proofs.index.open_items.Goals as goal
-use Rattle.cbor_cursor.proofs.{HeadsAt.same_head, IndexWalk.kept_behind}
+use Rattle.cbor_cursor.proofs.{HeadsAt.same_head, IndexWalk.kept_after}
 
 pub loop-offset-init : goal.loop-offset-init
 loop-offset-init c = record {
@@ -43,7 +43,7 @@ loop-offset-preserved c =
           let opened = rw (f.0, f.1) at c.opened.ensures in
           then_expected s c.args.bytes.now c.loop-offset.items c.loop-offset.offset c.loop-offset.count i c.loop-offset.invariant.offset c.head_there-head.result.content c.head_there-head.ensures.within.1 f.2 c.step_of-step.result.end c.step_of-step.result.members c.put.new.items end members (omega (arith, c.put.auto.items))
           (λ n. c.put.ensures.written n ∙ ap (set c.loop-offset.items c.loop-offset.count) opened));
-      kept = kept_behind c.loop-offset.items c.put.new.items c.args.items.now c.loop-offset.count c.opened.result c.put.ensures.written c.put.ensures.full c.loop-offset.invariant.kept;
+      kept = kept_after c.loop-offset.items c.put.new.items c.args.items.now c.loop-offset.count c.opened.result c.put.ensures.written c.put.ensures.full c.loop-offset.invariant.kept;
     }
 
 pub returns-clause-opened : goal.returns-clause-opened

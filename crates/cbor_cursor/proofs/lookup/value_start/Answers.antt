@@ -17,7 +17,7 @@ returns-in-Equal-clause-pair c = λ o es rest a.
     let n = next_pair o es _ c.loop-left.left _ rest c.loop-left-test.true (c.loop-left.invariant.pairs o es rest a) in
     let v = (c.in_ok-value.ensures.item _).0 (canonical_item o n.k _ _ n.key_is) in
     let w = c.in_ok-value.ensures.within in
-    let cut = between c.args.bytes.now c.loop-left.at c.in_ok-value.value (canonical o n.k) n.behind_key (omega (arith, w)) w.1 n.key_is.begins v in
+    let cut = between c.args.bytes.now c.loop-left.at c.in_ok-value.value (canonical o n.k) n.after_key (omega (arith, w)) w.1 n.key_is.begins v in
     record {
       stored = n.k;
       value = n.v;
@@ -34,7 +34,7 @@ returns-in-After-clause-pair c = λ o es rest a.
     let n = next_pair o es _ c.loop-left.left _ rest c.loop-left-test.true (c.loop-left.invariant.pairs o es rest a) in
     let v = (c.in_ok-value.ensures.item _).0 (canonical_item o n.k _ _ n.key_is) in
     let w = c.in_ok-value.ensures.within in
-    let cut = between c.args.bytes.now c.loop-left.at c.in_ok-value.value (canonical o n.k) n.behind_key (omega (arith, w)) w.1 n.key_is.begins v in
+    let cut = between c.args.bytes.now c.loop-left.at c.in_ok-value.value (canonical o n.k) n.after_key (omega (arith, w)) w.1 n.key_is.begins v in
     n.none (subst (λ (x : List ℕ). IsTrue (key_lt o (c.args.head.now ++ c.args.payload.now) x)) cut (c.in-After.ensures.after.0 refl o))
 
 pub returns-in_err-at-clause-pair : goal.returns-in_err-at-clause-pair
@@ -49,7 +49,7 @@ loop-left-preserved c = record {
       let n = next_pair o es _ c.loop-left.left _ rest c.loop-left-test.true (c.loop-left.invariant.pairs o es rest a) in
       let v = (c.in_ok-value.ensures.item _).0 (canonical_item o n.k _ _ n.key_is) in
       let w = c.in_ok-value.ensures.within in
-      let cut = between c.args.bytes.now c.loop-left.at c.in_ok-value.value (canonical o n.k) n.behind_key (omega (arith, w)) w.1 n.key_is.begins v in
+      let cut = between c.args.bytes.now c.loop-left.at c.in_ok-value.value (canonical o n.k) n.after_key (omega (arith, w)) w.1 n.key_is.begins v in
       let p = (c.in_ok-at.ensures.item _).0 (later_item o n.v _ _ _ v n.value_is) in
       subst (λ (l : List ℕ). ArePairs o es (c.args.head.now ++ c.args.payload.now) (c.loop-left.left - 1) l rest) (sym p)
       (n.more (λ same. let f = c.in-Before.ensures.equal.1 (cut ∙ same) in absurd (cc f))));

@@ -25,6 +25,6 @@ returns-clause-pair c = λ o a.
     let v = (c.in_ok-end.ensures.item _).0 (later_item o n.v _ _ _ k n.value_begins) in
     let w = c.in_ok-end.ensures.within in
     n.finish _ _ _
-    (prefix_of bytes c.in_ok-value.value (canonical o n.k) n.behind_key c.in_ok-value.ensures.within.1 n.key_begins.begins k)
+    (prefix_of bytes c.in_ok-value.value (canonical o n.k) n.after_key c.in_ok-value.ensures.within.1 n.key_begins.begins k)
     (between bytes c.in_ok-value.value c.in_ok-end.end (canonical o n.v) rest (omega (arith, w)) w.1 (k ∙ n.value_begins.begins) v)
     (take_rest bytes c.in_ok-end.end ∙ v)

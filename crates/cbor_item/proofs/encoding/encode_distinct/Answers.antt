@@ -18,7 +18,7 @@ nodes-preserved-in-Some-2 g c =
     let k = subst (λ (vs : List Value). Walks o w (vs ∷ vss) a) c.in-Some.ensures c.nodes.invariant in
     let is : option_map (left see) c.in_ok-content-in-Some.field-0 ≡ Some (left see c.in-Some-2.content) = ap (option_map (left see)) c.in-Some-2.is in
     let begun = subst (IsBegun a.order v a.open_levels b.open_levels) is e.begun in
-    subst (λ (vss : List (List Value)). Walks o w vss b) (sym (pushed see _ _ _ _ c.in_ok-push-in-Some.ensures.pushed)) (walks_begun o w v (left see c.in-Some.behind) (left see c.in-Some-2.content) vss a b k e.order begun)
+    subst (λ (vss : List (List Value)). Walks o w vss b) (sym (pushed see _ _ _ _ c.in_ok-push-in-Some.ensures.pushed)) (walks_begun o w v (left see c.in-Some.following) (left see c.in-Some-2.content) vss a b k e.order begun)
 
 pub nodes-preserved-in_default : goal.nodes-preserved-in_default
 nodes-preserved-in_default g c =
@@ -32,7 +32,7 @@ nodes-preserved-in_default g c =
     let e = c.in_ok-content-in-Some.ensures in
     let k = subst (λ (vs : List Value). Walks o w (vs ∷ vss) a) c.in-Some.ensures c.nodes.invariant in
     let is : option_map (left see) c.in_ok-content-in-Some.field-0 ≡ None = ap (option_map (left see)) c.in_default.is in
-    walks_given o w v (left see c.in-Some.behind) vss a b k e.order (subst (IsBegun a.order v a.open_levels b.open_levels) is e.begun)
+    walks_given o w v (left see c.in-Some.following) vss a b k e.order (subst (IsBegun a.order v a.open_levels b.open_levels) is e.begun)
 
 pub nodes-preserved : goal.nodes-preserved
 nodes-preserved g c =
@@ -40,7 +40,7 @@ nodes-preserved g c =
     let o = c.args.order in
     let w = see c.args.node.now in
     let a = c.nodes.builder in
-    let s = c.in-Some-pop.behind in
+    let s = c.in-Some-pop.following in
     let rs = c.pop.new.self.items in
     let k = subst (λ (vss : List (List Value)). Walks o w vss a) (popped see c.nodes.rest s c.nodes.outer.items rs c.in-None.ensures c.in-Some-pop.ensures.items) c.nodes.invariant in
     walks_ended o w (left see s) (map (left see) (reverse rs)) a c.end_if_distinct.new.builder c.in_ok-end_if_distinct-in-None.field-0 (sym c.if-is_some.ensures) k c.in_ok-end_if_distinct-in-None.ensures.ends
@@ -51,7 +51,7 @@ returns-then-is_some-clause-valid g c =
     let o = c.args.order in
     let w = see c.args.node.now in
     let a = c.nodes.builder in
-    let s = c.in-Some-pop.behind in
+    let s = c.in-Some-pop.following in
     let rs = c.pop.new.self.items in
     let k = subst (λ (vss : List (List Value)). Walks o w vss a) (popped see c.nodes.rest s c.nodes.outer.items rs c.in-None.ensures c.in-Some-pop.ensures.items) c.nodes.invariant in
     fails (not_valid o w (left see s) (map (left see) (reverse rs)) a c.end_if_distinct.new.builder c.in_ok-end_if_distinct-in-None.field-0 _ (sym c.if-is_some.ensures) k c.in_ok-end_if_distinct-in-None.ensures.ends)

@@ -2,7 +2,7 @@ use Rattle.std.proofs.Common.{◌≡◌, ◌↔◌, List, length, slice_range, i
 use Rattle.cbor_head.specs.Value as value
 use Rattle.cbor_head.specs.Prelude.{Value, Same, SameValues, Covered, IsValid, AreValid}
 use Rattle.theory_values.proofs.Decided.{was_true, was_false, fails, unequal}
-use Rattle.theory_values.proofs.Lists.{IsVisited, values_counted, entries_counted, valid_read, covered_on, covered_fail, visited_on, visited_behind, visited_before}
+use Rattle.theory_values.proofs.Lists.{IsVisited, values_counted, entries_counted, valid_read, covered_on, covered_fail, visited_on, visited_after, visited_before}
 use Rattle.theory_values.proofs.Sameness.{SameValues-count}
 use Rattle.cbor_builder.proofs.ByIndex.{at_read}
 use Rattle.cbor_item.proofs.sameness.+same.Goals as goal
@@ -57,7 +57,7 @@ pub find-returns-in-Some-clause-found : goal.find-returns-in-Some-clause-found
 find-returns-in-Some-clause-found g t c =
     let see = g.N.Node.value in
     let ys = c.args.ys.now in
-    ((λ e. visited_behind see (c.args.key.now, c.args.value.now) ys c.args.start (length ys) refl (c.in-Some.ensures.found.0 refl)), (λ m. refl))
+    ((λ e. visited_after see (c.args.key.now, c.args.value.now) ys c.args.start (length ys) refl (c.in-Some.ensures.found.0 refl)), (λ m. refl))
 
 pub find-returns-in-None-clause-found : goal.find-returns-in-None-clause-found
 find-returns-in-None-clause-found g t c =

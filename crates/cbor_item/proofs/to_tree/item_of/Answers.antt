@@ -17,4 +17,4 @@ nodes-preserved-in-Some-2 g c =
     let k = subst (λ (vs : List Value). Walks w (vs ∷ vss) os) c.in-Some.ensures c.nodes.invariant in
     let is : option_map (left see) c.in_ok-content-in-Some.field-0 ≡ Some (left see c.in-Some-2.content) = ap (option_map (left see)) c.in-Some-2.is in
     let begun = subst (IsBegun v os (open_levels c.begin.new.builder)) is c.in_ok-content-in-Some.ensures.begun in
-    rw (pushed see _ _ _ _ c.in_ok-push-in-Some.ensures.pushed) (walks_begun w v (left see c.in-Some-2.content) (left see c.in-Some.behind) vss os _ k begun)
+    rw (pushed see _ _ _ _ c.in_ok-push-in-Some.ensures.pushed) (walks_begun w v (left see c.in-Some-2.content) (left see c.in-Some.following) vss os _ k begun)

@@ -14,7 +14,7 @@ returns-clause-used c = (omega (arith, c.in_ok-argument.ensures.fewer, c.in_ok-f
 
 pub returns-then-c-ge224-clause-here : goal.returns-then-c-ge224-clause-here
 returns-then-c-ge224-clause-here c = record {
-  behind = c.in_ok-first.behind.now;
+  following = c.in_ok-first.following.now;
   rest = c.in_ok-argument.argument.rest.now;
   is = c.in_ok-first.ensures.cases.0;
   argument = c.in_ok-argument.ensures.spelled;
@@ -26,7 +26,7 @@ returns-then-c-ge224-clause-here c = record {
 
 pub returns-clause-here : goal.returns-clause-here
 returns-clause-here c = record {
-  behind = c.in_ok-first.behind.now;
+  following = c.in_ok-first.following.now;
   rest = c.in_ok-argument.argument.rest.now;
   is = c.in_ok-first.ensures.cases.0;
   argument = c.in_ok-argument.ensures.spelled;
@@ -45,14 +45,14 @@ returns-clause-width c = let a = c.in_ok-argument.argument in definite a.width a
 pub returns-then-c-ge224-clause-exact : goal.returns-then-c-ge224-clause-exact
 returns-then-c-ge224-clause-exact c = λ one.
     let is = c.in_ok-first.ensures.cases.0 in
-    let none : length c.in_ok-first.behind.now ≡ 0 = omega (arith, one, ap length is) in
+    let none : length c.in_ok-first.following.now ≡ 0 = omega (arith, one, ap length is) in
     let short = direct_alone _ _ _ _ _ none c.in_ok-argument.ensures.spelled in
     rw is (grind (arith, short, c.if-c-ge224.true))
 
 pub returns-clause-exact : goal.returns-clause-exact
 returns-clause-exact c = λ one.
     let is = c.in_ok-first.ensures.cases.0 in
-    let none : length c.in_ok-first.behind.now ≡ 0 = omega (arith, one, ap length is) in
+    let none : length c.in_ok-first.following.now ≡ 0 = omega (arith, one, ap length is) in
     let short = direct_alone _ _ _ _ _ none c.in_ok-argument.ensures.spelled in
     let space = ap (has_space c.args.depth (frames_of c.args.container_stack.now)) (sym c.numbered_at.ensures) ∙ sym c.has_space.ensures ∙ c.if-not-has_space.false in
     let begins = space_begins c.args.depth c.args.container_stack.now c.in_ok-first.first.now c.if-c-ge224.false space in

@@ -9,7 +9,7 @@ returns-then-head-ge224-clause-reported c = λ from h.
     let high = c.if-head-ge224.true in
     let head = c.args.head in
     subst (λ (k : ℕ). IsEventRun c.args.depth (at_item (frames_of c.args.container_stack.now)) (state_of c.finish.new.position c.finish.new.container_stack) (take k from) head.width (kind_of Simple head.number)) (sym h.used)
-    (simple-run c.args.depth (frames_of c.args.container_stack.now) from head.first h.behind head.width head.number h.rest _ h.is h.argument h.small high (h.simple high).0 (h.simple high).1 c.finish.ensures.state)
+    (simple-run c.args.depth (frames_of c.args.container_stack.now) from head.first h.following head.width head.number h.rest _ h.is h.argument h.small high (h.simple high).0 (h.simple high).1 c.finish.ensures.state)
 
 pub enter-requires-clause-space : goal.enter-requires-clause-space
 enter-requires-clause-space c = ap (has_space c.args.depth (frames_of c.args.container_stack.now)) c.numbered_at-kind.ensures ∙ c.requires.space c.if-head-ge224.false
@@ -18,7 +18,7 @@ pub returns-clause-reported : goal.returns-clause-reported
 returns-clause-reported c = λ from h.
     let head = c.args.head in
     subst (λ (k : ℕ). IsEventRun c.args.depth (at_item (frames_of c.args.container_stack.now)) (state_of c.enter.new.position c.enter.new.container_stack) (take k from) head.width (kind_of c.reported_of.result head.number)) (sym h.used)
-    (numbered-run c.args.depth (frames_of c.args.container_stack.now) from head.first h.behind head.width head.number h.rest c.numbered_at-kind.result _ _ h.is h.argument h.small c.numbered_at-kind.ensures
+    (numbered-run c.args.depth (frames_of c.args.container_stack.now) from head.first h.following head.width head.number h.rest c.numbered_at-kind.result _ _ h.is h.argument h.small c.numbered_at-kind.ensures
     (ap (has_space c.args.depth (frames_of c.args.container_stack.now)) c.numbered_at-kind.ensures ∙ c.requires.space c.if-head-ge224.false) c.enter.ensures.state (c.reported_of.ensures.marks _ _) (c.reported_of.ensures.proper _ _))
 
 pub returns-clause-proper : goal.returns-clause-proper

@@ -1,6 +1,6 @@
 use Rattle.std.proofs.Common.{◌≡◌, List, ℕ, take, sym, ap, ◌∙◌, subst, arith, length, length-take}
 use Rattle.cbor_head.specs.Prelude.{strict}
-use Rattle.theory_verdicts.{specs.Stop.IsRefused, specs.Stop.IsAnswered, proofs.PathVerdict.accepts}
+use Rattle.theory_verdicts.{specs.Stop.IsRefused, specs.Stop.IsReportedAs, proofs.PathVerdict.accepts}
 use Rattle.cbor_parser.proofs.canonical.canonical_prefix.Goals as goal
 use Rattle.cbor_parser.{specs.inner.Cells.IsWhole, proofs.CanonicalStops.not_canonical}
 
@@ -23,5 +23,5 @@ returns-in-Err c =
     let f = c.in-Err.refusal in
     let g = c.truncated_or_too_long.result in
     not_canonical o limits c.args.bytes.now f (subst (λ (xs : List ℕ). IsRefused o limits xs f) input c.in-Err.ensures.refused) g
-    (subst (λ m. IsAnswered m (take limits.bytes c.args.bytes.now) f g) c.bytes-in-Err.ensures.bytes
-    (subst (λ (xs : List ℕ). IsAnswered c.bytes-in-Err.result xs f g) input c.truncated_or_too_long.ensures))
+    (subst (λ m. IsReportedAs m (take limits.bytes c.args.bytes.now) f g) c.bytes-in-Err.ensures.bytes
+    (subst (λ (xs : List ℕ). IsReportedAs c.bytes-in-Err.result xs f g) input c.truncated_or_too_long.ensures))

@@ -6,8 +6,8 @@ use Rattle.cbor_parser.specs.inner.{Begins.AreWholeChunks, Parts.chunked_from}
 
 abbrev pub invariant-chunks : goal.invariant-chunks
 invariant-chunks l = record {
-  read : AreChunksRead l.is_text (chunked_from l.is_text l.behind) l.rest;
-  whole : AreWholeChunks l.is_text l.rest → AreWholeChunks l.is_text l.behind;
+  read : AreChunksRead l.is_text (chunked_from l.is_text l.following) l.rest;
+  whole : AreWholeChunks l.is_text l.rest → AreWholeChunks l.is_text l.following;
   kind : l.kind ≡ major_number (string_major l.is_text);
 }
 

@@ -4,16 +4,16 @@ use Rattle.cbor_parser.proofs.skip.past_items.Goals as goal
 use Rattle.cbor_parser.proofs.Skips.{one_more, gone_on, none_at_start, never-stops}
 use Rattle.cbor_parser.{proofs.skip.past_items.Goals.After-counted-outermost, specs.inner.Parser.BeginsTaken, specs.inner.Parser.IsExpected}
 use Rattle.cbor_parser.{proofs.GivenKinds.starts-kept, proofs.GivenParts.starts, specs.declared.skip.Nothing.Nothing}
-use Rattle.cbor_parser.specs.inner.{Skip.StandAtStart, Skip.anywhere, OpenContainer.Cell}
+use Rattle.cbor_parser.specs.inner.{Skip.HasItemsAtStart, Skip.anywhere, OpenContainer.Cell}
 
 -- one more is there
 next : (c : After-counted-outermost) → BeginsTaken c.args.limits.depth c.loop.rest.now
 next c =
     let a = c.args in
     let rest = c.loop.rest.now in
-    let (behind, h) = c.requires.items in
+    let (following, h) = c.requires.items in
     let some : a.count - c.loop.counter ≡ suc (a.count - (c.loop.counter + 1)) = omega (arith, c.loop-test.true) in
-    let more = one_more a.limits.depth rest (a.count - (c.loop.counter + 1)) behind (subst (λ (m : ℕ). StandAtStart a.limits.depth rest m behind) some (c.loop.invariant.left behind h)) in
+    let more = one_more a.limits.depth rest (a.count - (c.loop.counter + 1)) following (subst (λ (m : ℕ). HasItemsAtStart a.limits.depth rest m following) some (c.loop.invariant.left following h)) in
     (more.item, more.more, more.taken, more.bytes)
 
 pub parse-requires : goal.parse-requires
@@ -33,17 +33,17 @@ loop-preserved c =
     let a = c.args in
     let rest = c.loop.rest.now in
     let built = c.in-Ok.ensures.0 in
-    let to = c.in-Ok.behind.now in
+    let to = c.in-Ok.following.now in
     let some : a.count - c.loop.counter ≡ suc (a.count - (c.loop.counter + 1)) = omega (arith, c.loop-test.true) in
     record {
-      left = λ behind h.
-          gone_on a.limits.depth rest (a.count - (c.loop.counter + 1)) behind (subst (λ (m : ℕ). StandAtStart a.limits.depth rest m behind) some (c.loop.invariant.left behind h)) built.item to built.taken built.bytes;
+      left = λ following h.
+          gone_on a.limits.depth rest (a.count - (c.loop.counter + 1)) following (subst (λ (m : ℕ). HasItemsAtStart a.limits.depth rest m following) some (c.loop.invariant.left following h)) built.item to built.taken built.bytes;
       small = omega (arith, c.loop.invariant.small, ap length built.bytes, length-append (spell built.item) to);
       within = omega (arith, c.loop.invariant.within, ap length built.bytes, length-append (spell built.item) to);
     }
 
 pub returns : goal.returns
-returns c = λ behind h. none_at_start c.args.limits.depth c.loop.rest.now (c.args.count - c.loop.counter) behind (omega (arith, c.loop-test.false)) (c.loop.invariant.left behind h)
+returns c = λ following h. none_at_start c.args.limits.depth c.loop.rest.now (c.args.count - c.loop.counter) following (omega (arith, c.loop-test.false)) (c.loop.invariant.left following h)
 
 pub unreachable-requires : goal.unreachable-requires
 unreachable-requires c =

@@ -1,23 +1,23 @@
 use Rattle.std.{proofs.Common.arith, specs.Cow.cow_slice_items}
-use Rattle.cbor_reader.proofs.OnAnswers.{ok_item, err_item, ok_equal, ok_again, err_reason}
+use Rattle.cbor_reader.proofs.OnResults.{ok_item, err_item, ok_equal, ok_again, err_reason}
 use Rattle.cbor_reader.proofs.canonicaliser.canonical_bytes.Goals as goal
 
 pub returns-clause-accepted : goal.returns-clause-accepted
 returns-clause-accepted c =
-    ok_item c.args.limits c.args.order c.args.bytes.now cow_slice_items c.canonical_bytes_in.result c.canonical_bytes_in.ensures.answer
+    ok_item c.args.limits c.args.order c.args.bytes.now cow_slice_items c.canonical_bytes_in.result c.canonical_bytes_in.ensures.outcome
 
 pub returns-clause-refused : goal.returns-clause-refused
 returns-clause-refused c =
-    err_item c.args.limits c.args.order c.args.bytes.now cow_slice_items c.canonical_bytes_in.result c.canonical_bytes_in.ensures.answer
+    err_item c.args.limits c.args.order c.args.bytes.now cow_slice_items c.canonical_bytes_in.result c.canonical_bytes_in.ensures.outcome
 
 pub returns-clause-equal : goal.returns-clause-equal
 returns-clause-equal c =
-    ok_equal c.args.limits c.args.order c.args.bytes.now cow_slice_items c.canonical_bytes_in.result (omega arith) c.canonical_bytes_in.ensures.answer
+    ok_equal c.args.limits c.args.order c.args.bytes.now cow_slice_items c.canonical_bytes_in.result (omega arith) c.canonical_bytes_in.ensures.outcome
 
 pub returns-clause-reason : goal.returns-clause-reason
 returns-clause-reason c =
-    err_reason c.args.limits c.args.order c.args.bytes.now cow_slice_items c.canonical_bytes_in.result c.canonical_bytes_in.ensures.answer
+    err_reason c.args.limits c.args.order c.args.bytes.now cow_slice_items c.canonical_bytes_in.result c.canonical_bytes_in.ensures.outcome
 
 pub returns-clause-again : goal.returns-clause-again
 returns-clause-again c =
-    ok_again c.args.limits c.args.order c.args.bytes.now cow_slice_items c.canonical_bytes_in.result (omega arith) c.canonical_bytes_in.ensures.answer
+    ok_again c.args.limits c.args.order c.args.bytes.now cow_slice_items c.canonical_bytes_in.result (omega arith) c.canonical_bytes_in.ensures.outcome

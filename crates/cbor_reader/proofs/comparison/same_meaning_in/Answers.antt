@@ -17,8 +17,8 @@ returns-in-Err-encoded_item-clause-only c =
 decides : (c : Joined-left_item-4) → Decides c.eq-2.result (cow_slice_items c.in-Ok.bytes ≡ cow_slice_items c.in-Ok-encoded_item.bytes)
 decides c = rw (← c.as_slice-2.ensures.value, ← c.as_slice-3.ensures.value) (slice_eq-Decides Decides-eqb _ _ _ c.eq-2.ensures)
 
-pub returns-clause-answer : goal.returns-clause-answer
-returns-clause-answer c =
+pub returns-clause-outcome : goal.returns-clause-outcome
+returns-clause-outcome c =
     same_inputs c.args.limits (omega arith) c.args.left.now c.args.right.now c.eq-2.result (cow_slice_items c.in-Ok.bytes) (cow_slice_items c.in-Ok-encoded_item.bytes)
     (decides c) c.in-Ok.ensures.encoded c.in-Ok-encoded_item.ensures.encoded
 
@@ -32,8 +32,8 @@ returns-clause-values c =
 alike : (c : Joined-left_item) → c.args.left.now ≡ c.args.right.now
 alike c = (slice_eq-Decides Decides-eqb _ _ _ c.eq.ensures).0 c.if-eq.true
 
-pub returns-then-eq-clause-answer : goal.returns-then-eq-clause-answer
-returns-then-eq-clause-answer c = rw (← alike c) (
+pub returns-then-eq-clause-outcome : goal.returns-then-eq-clause-outcome
+returns-then-eq-clause-outcome c = rw (← alike c) (
     same_inputs c.args.limits (omega arith) c.args.left.now c.args.left.now Bool.true (cow_slice_items c.in-Ok.bytes) (cow_slice_items c.in-Ok.bytes)
     ((λ _. refl), (λ _. refl)) c.in-Ok.ensures.encoded c.in-Ok.ensures.encoded)
 
@@ -49,8 +49,8 @@ own c =
     encoded_again c.args.limits (omega arith) c.args.left.now c.args.right.now (cow_slice_items c.in-Ok.bytes) c.in-Ok.ensures.encoded
     (c.is_within.ensures.equal c.if-is_within.true ∙ c.as_slice.ensures.value) (omega (arith, c.is_within.ensures.within c.if-is_within.true, c.bytes.ensures.bytes))
 
-pub returns-then-is_within-clause-answer : goal.returns-then-is_within-clause-answer
-returns-then-is_within-clause-answer c =
+pub returns-then-is_within-clause-outcome : goal.returns-then-is_within-clause-outcome
+returns-then-is_within-clause-outcome c =
     same_inputs c.args.limits (omega arith) c.args.left.now c.args.right.now Bool.true (cow_slice_items c.in-Ok.bytes) (cow_slice_items c.in-Ok.bytes)
     ((λ _. refl), (λ _. refl)) c.in-Ok.ensures.encoded (own c)
 

@@ -1,7 +1,7 @@
 use Rattle.std.proofs.Common.{arith}
 use Rattle.cbor_head.specs.Prelude.{value_of}
 use Rattle.cbor_reader.proofs.whole_item.encoded_item.Goals as goal
-use Rattle.cbor_reader.{specs.WholeItem.unread, specs.WholeItem.trailing, proofs.OwnAnswers.own_prefix, proofs.WholeItems.all-of-it}
+use Rattle.cbor_reader.{specs.WholeItem.unread, specs.WholeItem.trailing, proofs.OwnResults.own_prefix, proofs.WholeItems.all-of-it}
 
 pub returns-then-size-bytes-clause-refused : goal.returns-then-size-bytes-clause-refused
 returns-then-size-bytes-clause-refused c = trailing c.in-Ok.size c.in-Ok.ensures.accepted.read (omega (arith, c.if-size-bytes.true)) c.trailing.ensures

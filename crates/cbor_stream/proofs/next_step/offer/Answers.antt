@@ -8,35 +8,35 @@ use Rattle.cbor_stream.specs.inner.Amid.{IsTaken}
 pub is_other_key-requires : goal.is_other_key-requires
 is_other_key-requires c = λ k. (c.requires.first k).0
 
-pub returns-then-is_other_key-clause-answers : goal.returns-then-is_other_key-clause-answers
-returns-then-is_other_key-clause-answers c = λ b t ms a offered.
+pub returns-then-is_other_key-clause-returned : goal.returns-then-is_other_key-clause-returned
+returns-then-is_other_key-clause-returned c = λ b t ms a offered.
     let s = c.take_part-step in
     let k = c.is_other_key.ensures.other c.if-is_other_key.true in
-    other_here c.args.is_key c.args.machine.now s.new.machine c.args.items.now c.args.input.now s.result c.below_256.ensures c.requires.first s.ensures.used s.ensures.taken s.ensures.limits s.ensures.exact s.ensures.walked s.ensures.answers
+    other_here c.args.is_key c.args.machine.now s.new.machine c.args.items.now c.args.input.now s.result c.below_256.ensures c.requires.first s.ensures.used s.ensures.taken s.ensures.limits s.ensures.exact s.ensures.walked s.ensures.returned
     b t ms a offered k.0 (subst (IsTaken s.result.out) c.taken-place.ensures.taken k.1) k.2 c.new-refusal.result
     (c.new-refusal.ensures ∙ ap (λ n. refusal KeyKind n c.taken.result) c.taken-place.ensures.taken ∙ ap (refusal KeyKind c.args.machine.now.taken) c.taken.ensures.taken)
 
-pub returns-in_default-clause-answers : goal.returns-in_default-clause-answers
-returns-in_default-clause-answers c = λ b t ms a offered.
+pub returns-in_default-clause-returned : goal.returns-in_default-clause-returned
+returns-in_default-clause-returned c = λ b t ms a offered.
     let s = c.take_part-step in
-    no_event_here c.args.is_key c.args.machine.now s.new.machine c.args.items.now c.args.input.now s.result c.below_256.ensures c.requires.first s.ensures.used s.ensures.taken s.ensures.limits s.ensures.exact s.ensures.walked s.ensures.answers
+    no_event_here c.args.is_key c.args.machine.now s.new.machine c.args.items.now c.args.input.now s.result c.below_256.ensures c.requires.first s.ensures.used s.ensures.taken s.ensures.limits s.ensures.exact s.ensures.walked s.ensures.returned
     b t ms a offered (λ key was. c.is_other_key.ensures.basic c.if-is_other_key.false key (subst (IsTaken s.result.out) (sym c.taken-place.ensures.taken) was)) c.in_default.not-Event s.ensures.done s.ensures.stays (if_refused s.result.out _ _ (λ f h. h.1) s.ensures.refused) s.ensures.reason
 
 pub admit-requires : goal.admit-requires
 admit-requires c =
     let s = c.take_part-step in
     let x = c.requires.somewhere.1 in
-    event_come_here c.args.is_key c.args.machine.now s.new.machine c.args.items.now c.args.input.now s.result c.below_256.ensures c.requires.first s.ensures.used s.ensures.taken s.ensures.limits s.ensures.exact s.ensures.walked s.ensures.answers
+    event_come_here c.args.is_key c.args.machine.now s.new.machine c.args.items.now c.args.input.now s.result c.below_256.ensures c.requires.first s.ensures.used s.ensures.taken s.ensures.limits s.ensures.exact s.ensures.walked s.ensures.returned
     x.b x.t x.ms x.amid c.in-Event.event c.in-Event.is (s.ensures.progress (subst IsEvent (sym c.in-Event.is) tt)) c.open-open.result c.taken-taken.result c.open-open.ensures.count c.taken-taken.ensures.taken
 
-pub returns-in-Ok-clause-answers : goal.returns-in-Ok-clause-answers
-returns-in-Ok-clause-answers c = λ b t ms a offered.
+pub returns-in-Ok-clause-returned : goal.returns-in-Ok-clause-returned
+returns-in-Ok-clause-returned c = λ b t ms a offered.
     let s = c.take_part-step in
-    event_here c.args.is_key c.args.machine.now s.new.machine c.args.items.now c.args.input.now s.result c.below_256.ensures c.requires.first s.ensures.used s.ensures.taken s.ensures.limits s.ensures.exact s.ensures.walked s.ensures.answers
-    b t ms a offered (λ key was. c.is_other_key.ensures.basic c.if-is_other_key.false key (subst (IsTaken s.result.out) (sym c.taken-place.ensures.taken) was)) c.in-Event.event c.in-Event.is (s.ensures.progress (subst IsEvent (sym c.in-Event.is) tt)) c.admit.new.self c.in-Ok.ensures.order c.open-open.result c.taken-taken.result c.open-open.ensures.count c.taken-taken.ensures.taken tt c.in-Ok.ensures.answers
+    event_here c.args.is_key c.args.machine.now s.new.machine c.args.items.now c.args.input.now s.result c.below_256.ensures c.requires.first s.ensures.used s.ensures.taken s.ensures.limits s.ensures.exact s.ensures.walked s.ensures.returned
+    b t ms a offered (λ key was. c.is_other_key.ensures.basic c.if-is_other_key.false key (subst (IsTaken s.result.out) (sym c.taken-place.ensures.taken) was)) c.in-Event.event c.in-Event.is (s.ensures.progress (subst IsEvent (sym c.in-Event.is) tt)) c.admit.new.self c.in-Ok.ensures.order c.open-open.result c.taken-taken.result c.open-open.ensures.count c.taken-taken.ensures.taken tt c.in-Ok.ensures.returned
 
-pub returns-in-Err-clause-answers : goal.returns-in-Err-clause-answers
-returns-in-Err-clause-answers c = λ b t ms a offered.
+pub returns-in-Err-clause-returned : goal.returns-in-Err-clause-returned
+returns-in-Err-clause-returned c = λ b t ms a offered.
     let s = c.take_part-step in
-    withheld_here c.args.is_key c.args.machine.now s.new.machine c.args.items.now c.args.input.now s.result c.below_256.ensures c.requires.first s.ensures.used s.ensures.taken s.ensures.limits s.ensures.exact s.ensures.walked s.ensures.answers
-    b t ms a offered (λ key was. c.is_other_key.ensures.basic c.if-is_other_key.false key (subst (IsTaken s.result.out) (sym c.taken-place.ensures.taken) was)) c.in-Event.event c.in-Event.is (s.ensures.progress (subst IsEvent (sym c.in-Event.is) tt)) c.admit.new.self c.in-Err.ensures.order c.open-open.result c.taken-taken.result c.open-open.ensures.count c.taken-taken.ensures.taken c.in-Err.refusal c.in-Err.ensures.answers
+    withheld_here c.args.is_key c.args.machine.now s.new.machine c.args.items.now c.args.input.now s.result c.below_256.ensures c.requires.first s.ensures.used s.ensures.taken s.ensures.limits s.ensures.exact s.ensures.walked s.ensures.returned
+    b t ms a offered (λ key was. c.is_other_key.ensures.basic c.if-is_other_key.false key (subst (IsTaken s.result.out) (sym c.taken-place.ensures.taken) was)) c.in-Event.event c.in-Event.is (s.ensures.progress (subst IsEvent (sym c.in-Event.is) tt)) c.admit.new.self c.in-Err.ensures.order c.open-open.result c.taken-taken.result c.open-open.ensures.count c.taken-taken.ensures.taken c.in-Err.refusal c.in-Err.ensures.returned

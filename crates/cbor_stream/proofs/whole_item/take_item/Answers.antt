@@ -2,7 +2,7 @@ use Rattle.std.proofs.Common.{◌++◌, sym, ◌∙◌, arith, take, length-take
 use Rattle.theory_automaton.specs.Trace.{trace}
 use Rattle.cbor_strict.proofs.WholeItems.{canonical_item}
 use Rattle.cbor_stream.proofs.whole_item.take_item.Goals as goal
-use Rattle.cbor_stream.proofs.{Amid.amid_stands, Starts.events_of, WholeItems.whole_ended, WholeItems.amid_whole}
+use Rattle.cbor_stream.proofs.{Amid.amid_represents, Starts.events_of, WholeItems.whole_ended, WholeItems.amid_whole}
 
 pub slice_bounds-take_item-end : goal.slice_bounds-take_item-end
 slice_bounds-take_item-end c =
@@ -13,7 +13,7 @@ pub take_item-requires-clause-within : goal.take_item-requires-clause-within
 take_item-requires-clause-within c =
     let i = canonical_item c.limits_left.result c.args.items.now.order c.args.input.now c.in-Some.count c.in-Some.ensures in
     let x = c.requires.somewhere in
-    let s = amid_stands c.args.machine.now c.args.items.now x.b x.t x.ms x.amid in
+    let s = amid_represents c.args.machine.now c.args.items.now x.b x.t x.ms x.amid in
     omega (arith, i.1.within, c.limits_left.ensures.bytes, s.limited)
 
 pub end_whole_item-requires : goal.end_whole_item-requires
@@ -27,12 +27,12 @@ end_whole_item-requires c =
       b = x.b;
       e = events_of c.take_item.new.self;
       t = x.amid.before ++ bs;
-      ended = whole_ended c.args.machine.now c.args.items.now x.b x.t x.ms x.amid c.requires.expected c.requires.outside c.limits_left.result bs i.1 c.limits_left.ensures.depth (c.limits_left.ensures.keys ∙ sym x.asks) c.take_item.new.self s.limits s.stands;
+      ended = whole_ended c.args.machine.now c.args.items.now x.b x.t x.ms x.amid c.requires.expected c.requires.outside c.limits_left.result bs i.1 c.limits_left.ensures.depth (c.limits_left.ensures.keys ∙ sym x.asks) c.take_item.new.self s.limits s.agrees;
       counted = c.open.ensures.count;
     }
 
-pub returns-clause-stands : goal.returns-clause-stands
-returns-clause-stands c = λ b t ms a keys.
+pub returns-clause-agrees : goal.returns-clause-agrees
+returns-clause-agrees c = λ b t ms a keys.
     let m = c.args.machine.now in
     let v = c.args.items.now in
     let new = c.take_item.new.self in
@@ -41,8 +41,8 @@ returns-clause-stands c = λ b t ms a keys.
     let i = canonical_item limits v.order c.args.input.now c.in-Some.count c.in-Some.ensures in
     let s = c.take_item.ensures in
     let asks = c.limits_left.ensures.keys ∙ sym keys in
-    let ended = whole_ended m v b t ms a c.requires.expected c.requires.outside limits bs i.1 c.limits_left.ensures.depth asks new s.limits s.stands in (
+    let ended = whole_ended m v b t ms a c.requires.expected c.requires.outside limits bs i.1 c.limits_left.ensures.depth asks new s.limits s.agrees in (
       ms ++ trace i.1.item,
-      amid_whole m v b t ms a c.requires.expected c.requires.outside limits bs i.1 c.limits_left.ensures.depth asks new s.limits s.stands c.end_whole_item.new.self c.end_whole_item.ensures.order
-          (c.end_whole_item.ensures.stands b (events_of new) (a.before ++ bs) ended c.open.ensures.count),
+      amid_whole m v b t ms a c.requires.expected c.requires.outside limits bs i.1 c.limits_left.ensures.depth asks new s.limits s.agrees c.end_whole_item.new.self c.end_whole_item.ensures.order
+          (c.end_whole_item.ensures.agrees b (events_of new) (a.before ++ bs) ended c.open.ensures.count),
     )

@@ -1,6 +1,6 @@
 use Rattle.std.proofs.Common.{◌++◌, ◌∙◌, ℕ, slice_get, map, ap, refl, inr, arith, length-append}
 use Rattle.cbor_head.specs.{Prelude.plain, Prelude.refusal, declared.reason.Reason.TheVariants.RepeatedKey, declared.reason.Refusal.Refusal}
-use Rattle.theory_verdicts.{specs.Levels.frame, proofs.Steps.at-reached, proofs.RefusedBehind.stopped_behind}
+use Rattle.theory_verdicts.{specs.Levels.frame, proofs.Steps.at-reached, proofs.RefusedAfter.stopped_after}
 use Rattle.cbor_tree_reader.proofs.PartsTaken.{refused-part, came, part-taken, part-fits, part-no-memory}
 use Rattle.cbor_tree_reader.proofs.item_reader.next_part.Goals as goal
 use Rattle.cbor_tree_reader.proofs.{TreeValues.tree-takes, PartEnds.repeated-key, PartEnds.goes-or-not}
@@ -71,12 +71,12 @@ returns-in-Ok-None-clause-part g c = λ b t d.
     let ending = k.leads c.give.new.self c.open-height.result c.in-Ok.event.place c.in-Ok-give.opened c.open-height.ensures.count refl gave.starts c.give.ensures.kinds gave.given gave.tree gave.sets in
     let ended = c.in-Ok-end_full.ensures.ends b c.read_part.new.events (t ++ k.bytes) ending c.open-open.ensures.count in
     let some = k.some in
-    let key = rw c.in-Ok-None.field-0-is at (c.in-Ok-None.ensures.answers ended.held) in
+    let key = rw c.in-Ok-None.field-0-is at (c.in-Ok-None.ensures.returned ended.held) in
     record {
       bytes = k.bytes;
       some = some;
       consumed = k.consumed;
-      stands = goes-or-not c.end_full.new.self c.repeated.new.self b c.read_part.new.events (t ++ k.bytes) c.open-open.result ended (omega (arith, some, length-append t k.bytes)) c.repeated.ensures.same.0 c.repeated.ensures.same.1 c.repeated.ensures.same.2 c.repeated.ensures.same.3
+      agrees = goes-or-not c.end_full.new.self c.repeated.new.self b c.read_part.new.events (t ++ k.bytes) c.open-open.result ended (omega (arith, some, length-append t k.bytes)) c.repeated.ensures.same.0 c.repeated.ensures.same.1 c.repeated.ensures.same.2 c.repeated.ensures.same.3
           key c.open-open.ensures.count;
     }
 
@@ -86,10 +86,10 @@ returns-in-Ok-Some-clause-part g c = λ b t d.
     let gave = c.in-Ok-give.ensures in
     let ending = k.leads c.give.new.self c.open-height.result c.in-Ok.event.place c.in-Ok-give.opened c.open-height.ensures.count refl gave.starts c.give.ensures.kinds gave.given gave.tree gave.sets in
     let ended = c.in-Ok-end_full.ensures.ends b c.read_part.new.events (t ++ k.bytes) ending c.open-open.ensures.count in
-    let key = rw c.in-Ok-Some.field-0-is at (c.in-Ok-Some.ensures.answers ended.held) in
+    let key = rw c.in-Ok-Some.field-0-is at (c.in-Ok-Some.ensures.returned ended.held) in
     let reported = c.new.ensures ∙ ap (λ (x : ℕ). refusal RepeatedKey c.in-Ok-Some.place x) c.taken.ensures.taken in
-    stopped_behind plain b t _ _ c.new.result k.bytes k.consumed (at-reached b c.read_part.new.events (t ++ k.bytes) ended.q ended.at).begins ended.keeps (record {
-      read = ap (λ (x : Refusal). x.read) reported ∙ k.at.stands.stands.taken;
+    stopped_after plain b t _ _ c.new.result k.bytes k.consumed (at-reached b c.read_part.new.events (t ++ k.bytes) ended.q ended.at).begins ended.keeps (record {
+      read = ap (λ (x : Refusal). x.read) reported ∙ k.at.agrees.agrees.taken;
       why = inr (repeated-key c.end_full.new.self b c.read_part.new.events (t ++ k.bytes) ended (omega (arith, k.some, length-append t k.bytes)) c.in-Ok-Some.place c.new.result key.0
           (λ at is. key.1 at (ap (λ (i : ℕ). slice_get c.end_full.new.self.starts.items i) c.open-open.ensures.count ∙ is))
           reported _);

@@ -1,6 +1,6 @@
 use Rattle.std.proofs.Common.{◌++◌, subst}
 use Rattle.cbor_head.specs.Prelude.{plain}
-use Rattle.theory_verdicts.proofs.RefusedBehind.{stopped_from}
+use Rattle.theory_verdicts.proofs.RefusedAfter.{stopped_from}
 use Rattle.cbor_tree_reader.proofs.PlainSteps.{takes-none, takes-on, takes-farther, takes-all}
 use Rattle.cbor_tree_reader.proofs.item_reader.read_parts.Goals as goal
 use Rattle.cbor_tree_reader.specs.inner.ItemPrefix.{TakesNext}

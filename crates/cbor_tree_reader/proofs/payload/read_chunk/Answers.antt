@@ -34,7 +34,7 @@ pub returns-in-Err-check_text-clause-payload : goal.returns-in-Err-check_text-cl
 returns-in-Err-check_text-clause-payload g c = λ b chunk m fs t a.
     let reads = (c.in-Ok.ensures.payload b chunk m fs t a).0 in
     let old : c.len-from.result ≡ length c.args.into.now.items = c.len-from.ensures ∙ c.args.into.now.ok.0 in
-    let place : c.taken-place.result ≡ length t = c.taken-place.ensures.taken ∙ a.stands.stands.taken in
+    let place : c.taken-place.result ≡ length t = c.taken-place.ensures.taken ∙ a.agrees.agrees.taken in
     let xs = take (length c.deref.result.now - c.len-from.result) (drop c.len-from.result c.deref.result.now) in
     chunk-no-text b _ t c.args.count c.args.into.now.items c.read_payload.new.into.items _ _ c.read_payload.new.events reads xs c.args.text _
     (take_rest c.deref.result.now c.len-from.result ∙ ap (λ n. drop n c.deref.result.now) old ∙ ap (drop (length c.args.into.now.items)) c.deref.ensures.value) c.in-Err-check_text.ensures.checked.0 c.if-not-text.false

@@ -14,19 +14,19 @@ unreachable-requires g c =
     let h = c.loop-left.invariant s.b s.chunk s.m s.fs s.t s.at in
     not-ended s.b c.loop-left.events c.next.new.self _ (payload s.chunk s.m c.loop-left.left s.fs) _ _ h.at c.in-Ok-None.field-0 c.in-Ok-None.field-0-is
     (payload-open s.b s.chunk s.m s.fs s.t c.loop-left.left _ _ _ _ c.loop-left.events c.args.count h c.loop-left-test.true)
-    (c.in-Ok-None.ensures.answers h.at.live _ h.at.marks h.at.stands)
+    (c.in-Ok-None.ensures.returned h.at.live _ h.at.marks h.at.agrees)
 
 pub returns-in-Err-clause-payload : goal.returns-in-Err-clause-payload
 returns-in-Err-clause-payload g c = λ b chunk m fs t a.
     let h = c.loop-left.invariant b chunk m fs t a in
     part-cut b chunk m fs t c.loop-left.left _ _ _ _ c.loop-left.events c.args.count h c.loop-left-test.true _ c.in-Err.refusal
-    (stops b c.loop-left.events c.next.new.self _ _ _ _ c.in-Err.refusal h.at (limits-as _ _ c.next.ensures.limits) (c.in-Err.ensures.answers h.at.live _ h.at.marks h.at.stands).1)
+    (stops b c.loop-left.events c.next.new.self _ _ _ _ c.in-Err.refusal h.at (limits-as _ _ c.next.ensures.limits) (c.in-Err.ensures.returned h.at.live _ h.at.marks h.at.agrees).1)
 
 pub returns-in-Err-extend-clause-payload : goal.returns-in-Err-extend-clause-payload
 returns-in-Err-extend-clause-payload g c = λ b chunk m fs t a.
     let h = c.loop-left.invariant b chunk m fs t a in
     part-memory b chunk m fs t c.loop-left.left _ _ _ _ c.loop-left.events c.args.count h c.loop-left-test.true c.in-Ok-Some.field-0-0 _ c.next.new.self (limits-as _ _ c.next.ensures.limits)
-    (reported b c.loop-left.events c.next.new.self _ _ _ _ h.at c.in-Ok-Some.field-0 c.in-Ok-Some.field-0-0 c.in-Ok-Some.field-0-is (c.in-Ok-Some.ensures.answers h.at.live _ h.at.marks h.at.stands))
+    (reported b c.loop-left.events c.next.new.self _ _ _ _ h.at c.in-Ok-Some.field-0 c.in-Ok-Some.field-0-0 c.in-Ok-Some.field-0-is (c.in-Ok-Some.ensures.returned h.at.live _ h.at.marks h.at.agrees))
     c.no_memory.result c.no_memory.ensures.taken (c.no_memory.ensures.memory, c.no_memory.ensures.place)
 
 pub overflow_sub-left : goal.overflow_sub-left
@@ -34,7 +34,7 @@ overflow_sub-left g c =
     let s = c.requires in
     let h = c.loop-left.invariant s.b s.chunk s.m s.fs s.t s.at in
     let f = part-fits s.b s.chunk s.m s.fs s.t c.loop-left.left _ _ _ _ c.loop-left.events c.args.count h c.loop-left-test.true c.in-Ok-Some.field-0-0 _ c.next.new.self (limits-as _ _ c.next.ensures.limits)
-    (reported s.b c.loop-left.events c.next.new.self _ _ _ _ h.at c.in-Ok-Some.field-0 c.in-Ok-Some.field-0-0 c.in-Ok-Some.field-0-is (c.in-Ok-Some.ensures.answers h.at.live _ h.at.marks h.at.stands)) in
+    (reported s.b c.loop-left.events c.next.new.self _ _ _ _ h.at c.in-Ok-Some.field-0 c.in-Ok-Some.field-0-0 c.in-Ok-Some.field-0-is (c.in-Ok-Some.ensures.returned h.at.live _ h.at.marks h.at.agrees)) in
     omega (arith, f.1, ap length c.piece-piece.ensures.piece)
 
 pub loop-left-smaller : goal.loop-left-smaller
@@ -42,7 +42,7 @@ loop-left-smaller g c =
     let s = c.requires in
     let h = c.loop-left.invariant s.b s.chunk s.m s.fs s.t s.at in
     let f = part-fits s.b s.chunk s.m s.fs s.t c.loop-left.left _ _ _ _ c.loop-left.events c.args.count h c.loop-left-test.true c.in-Ok-Some.field-0-0 _ c.next.new.self (limits-as _ _ c.next.ensures.limits)
-    (reported s.b c.loop-left.events c.next.new.self _ _ _ _ h.at c.in-Ok-Some.field-0 c.in-Ok-Some.field-0-0 c.in-Ok-Some.field-0-is (c.in-Ok-Some.ensures.answers h.at.live _ h.at.marks h.at.stands)) in
+    (reported s.b c.loop-left.events c.next.new.self _ _ _ _ h.at c.in-Ok-Some.field-0 c.in-Ok-Some.field-0-0 c.in-Ok-Some.field-0-is (c.in-Ok-Some.ensures.returned h.at.live _ h.at.marks h.at.agrees)) in
     omega (arith, f.0, f.1, ap length c.piece-piece.ensures.piece)
 
 pub loop-left-preserved : goal.loop-left-preserved
@@ -50,7 +50,7 @@ loop-left-preserved g c = λ b chunk m fs t a.
     let h = c.loop-left.invariant b chunk m fs t a in
     rw c.piece-piece.ensures.piece
     (part-comes b chunk m fs t c.loop-left.left _ _ _ _ c.loop-left.events c.args.count h c.loop-left-test.true c.in-Ok-Some.field-0-0 _ c.next.new.self (limits-as _ _ c.next.ensures.limits)
-    (reported b c.loop-left.events c.next.new.self _ _ _ _ h.at c.in-Ok-Some.field-0 c.in-Ok-Some.field-0-0 c.in-Ok-Some.field-0-is (c.in-Ok-Some.ensures.answers h.at.live _ h.at.marks h.at.stands))
+    (reported b c.loop-left.events c.next.new.self _ _ _ _ h.at c.in-Ok-Some.field-0 c.in-Ok-Some.field-0-0 c.in-Ok-Some.field-0-is (c.in-Ok-Some.ensures.returned h.at.live _ h.at.marks h.at.agrees))
     c.extend.new.list.items c.in-Ok-Some.ensures.live (rw (sym c.piece-piece.ensures.piece) c.in-Ok.ensures.extended))
 
 pub returns-clause-payload : goal.returns-clause-payload

@@ -18,7 +18,7 @@ parts-init g c = record {
     taken = [];
     marks = [];
     read = begun;
-    stands = c.new-machine.ensures.starts;
+    agrees = c.new-machine.ensures.starts;
     limits_are = c.new-machine.ensures.limits;
     order_is = c.new-machine.ensures.order;
   };
@@ -33,7 +33,7 @@ returns-in_err-finish-in-Refused-clause-fault g c =
     let before = c.parts.invariant.checked held kept begun in
     let since = keeps_keeps held _ _ kept c.parts.invariant.keeps in
     let within = rw (c.rest.ensures) at c.check-step.ensures.used.0 in
-    let says = rw (c.rest.ensures) at (c.check-step.ensures.says before.taken before.marks before.stands) in
+    let says = rw (c.rest.ensures) at (c.check-step.ensures.says before.taken before.marks before.agrees) in
     let a = taken_to held c.args.path.now c.args.options c.args.order c.parts.machine c.check-step.new.self c.parts.parts c.take.new.self before c.check-step.result.used within
     c.take.ensures.rest c.take.ensures.start c.take.ensures.source c.check-step.ensures.limits c.check-step.ensures.order c.check-step.ensures.keys in
     checked.no_rest held c.args.path.now c.args.options c.args.order c.check-step.new.self c.take.new.self _ a _ since _ c.in_err-finish-in-Refused.ensures.fault)
@@ -46,7 +46,7 @@ returns-in-Refused-clause-fault g c = λ held kept begun.
     let before = c.parts.invariant.checked held kept begun in
     let since = keeps_keeps held _ _ kept c.parts.invariant.keeps in
     let within = rw (c.rest.ensures) at c.check-step.ensures.used.0 in
-    let says = rw (c.rest.ensures) at (c.check-step.ensures.says before.taken before.marks before.stands) in
+    let says = rw (c.rest.ensures) at (c.check-step.ensures.says before.taken before.marks before.agrees) in
     let a = taken_to held c.args.path.now c.args.options c.args.order c.parts.machine c.check-step.new.self c.parts.parts c.take.new.self before c.check-step.result.used within
     c.take.ensures.rest c.take.ensures.start c.take.ensures.source c.check-step.ensures.limits c.check-step.ensures.order c.check-step.ensures.keys in
     checked.refused_there held c.args.path.now c.args.options c.args.order c.check-step.new.self c.take.new.self _ a _ since _ says c.in-Refused.refusal c.in-Refused.is c.in_ok-finish-in-Refused.ensures.input _ c.from.ensures
@@ -61,7 +61,7 @@ returns-in_err-rest-in-Done-clause-fault g c =
     let before = c.parts.invariant.checked held kept begun in
     let since = keeps_keeps held _ _ kept c.parts.invariant.keeps in
     let within = rw (c.rest.ensures) at c.check-step.ensures.used.0 in
-    let says = rw (c.rest.ensures) at (c.check-step.ensures.says before.taken before.marks before.stands) in
+    let says = rw (c.rest.ensures) at (c.check-step.ensures.says before.taken before.marks before.agrees) in
     let a = taken_to held c.args.path.now c.args.options c.args.order c.parts.machine c.check-step.new.self c.parts.parts c.take.new.self before c.check-step.result.used within
     c.take.ensures.rest c.take.ensures.start c.take.ensures.source c.check-step.ensures.limits c.check-step.ensures.order c.check-step.ensures.keys in
     checked.no_rest held c.args.path.now c.args.options c.args.order c.check-step.new.self c.take.new.self _ a _ since _ c.in_err-rest-in-Done.ensures.fault)
@@ -76,7 +76,7 @@ returns-in_err-size-in-Done-clause-fault g c =
     let before = c.parts.invariant.checked held kept begun in
     let since = keeps_keeps held _ _ kept c.parts.invariant.keeps in
     let within = rw (c.rest.ensures) at c.check-step.ensures.used.0 in
-    let says = rw (c.rest.ensures) at (c.check-step.ensures.says before.taken before.marks before.stands) in
+    let says = rw (c.rest.ensures) at (c.check-step.ensures.says before.taken before.marks before.agrees) in
     let a = taken_to held c.args.path.now c.args.options c.args.order c.parts.machine c.check-step.new.self c.parts.parts c.take.new.self before c.check-step.result.used within
     c.take.ensures.rest c.take.ensures.start c.take.ensures.source c.check-step.ensures.limits c.check-step.ensures.order c.check-step.ensures.keys in
     let some = something _ _ _ c.in_ok-rest-in-Done.ensures.rest c.in_ok-rest-in-Done.rest.ok.0 (sym c.is_empty.ensures ∙ c.in_err-size-in-Done.ensures.followed.1) in
@@ -90,7 +90,7 @@ returns-then-not-is_spent-clause-whole g c = λ held kept begun.
     let before = c.parts.invariant.checked held kept begun in
     let since = keeps_keeps held _ _ kept c.parts.invariant.keeps in
     let within = rw (c.rest.ensures) at c.check-step.ensures.used.0 in
-    let says = rw (c.rest.ensures) at (c.check-step.ensures.says before.taken before.marks before.stands) in
+    let says = rw (c.rest.ensures) at (c.check-step.ensures.says before.taken before.marks before.agrees) in
     let a = taken_to held c.args.path.now c.args.options c.args.order c.parts.machine c.check-step.new.self c.parts.parts c.take.new.self before c.check-step.result.used within
     c.take.ensures.rest c.take.ensures.start c.take.ensures.source c.check-step.ensures.limits c.check-step.ensures.order c.check-step.ensures.keys in
     let none = nothing _ _ _ c.in_ok-rest-in-Done.ensures.rest c.in_ok-rest-in-Done.rest.ok.0 (sym c.is_empty.ensures ∙ c.in_ok-size-in-Done.ensures.all.1) in
@@ -104,7 +104,7 @@ returns-then-not-goes_on-clause-fault g c = λ held kept begun.
     let before = c.parts.invariant.checked held kept begun in
     let since = keeps_keeps held _ _ kept c.parts.invariant.keeps in
     let within = rw (c.rest.ensures) at c.check-step.ensures.used.0 in
-    let says = rw (c.rest.ensures) at (c.check-step.ensures.says before.taken before.marks before.stands) in
+    let says = rw (c.rest.ensures) at (c.check-step.ensures.says before.taken before.marks before.agrees) in
     let a = taken_to held c.args.path.now c.args.options c.args.order c.parts.machine c.check-step.new.self c.parts.parts c.take.new.self before c.check-step.result.used within
     c.take.ensures.rest c.take.ensures.start c.take.ensures.source c.check-step.ensures.limits c.check-step.ensures.order c.check-step.ensures.keys in
     let more = checked.more_is _ _ _ c.in-More.is says in
@@ -126,7 +126,7 @@ parts-preserved g c = record {
       let before = c.parts.invariant.checked held kept begun in
       let since = keeps_keeps held _ _ kept c.parts.invariant.keeps in
       let within = rw (c.rest.ensures) at c.check-step.ensures.used.0 in
-      let says = rw (c.rest.ensures) at (c.check-step.ensures.says before.taken before.marks before.stands) in
+      let says = rw (c.rest.ensures) at (c.check-step.ensures.says before.taken before.marks before.agrees) in
       let a = taken_to held c.args.path.now c.args.options c.args.order c.parts.machine c.check-step.new.self c.parts.parts c.take.new.self before c.check-step.result.used within
       c.take.ensures.rest c.take.ensures.start c.take.ensures.source c.check-step.ensures.limits c.check-step.ensures.order c.check-step.ensures.keys in
       let now : checked.IsCheckedTo held c.args.path.now c.args.options c.args.order c.check-step.new.self c.take.new.self = elim c.match-step.branch [
@@ -145,7 +145,7 @@ returns-in_err-read_on-clause-fault g c =
     let before = c.parts.invariant.checked held kept begun in
     let since = keeps_keeps held _ _ kept c.parts.invariant.keeps in
     let within = rw (c.rest.ensures) at c.check-step.ensures.used.0 in
-    let says = rw (c.rest.ensures) at (c.check-step.ensures.says before.taken before.marks before.stands) in
+    let says = rw (c.rest.ensures) at (c.check-step.ensures.says before.taken before.marks before.agrees) in
     let a = taken_to held c.args.path.now c.args.options c.args.order c.parts.machine c.check-step.new.self c.parts.parts c.take.new.self before c.check-step.result.used within
     c.take.ensures.rest c.take.ensures.start c.take.ensures.source c.check-step.ensures.limits c.check-step.ensures.order c.check-step.ensures.keys in
     checked.no_part_there held c.args.path.now c.args.options c.args.order c.check-step.new.self c.take.new.self _ a _ since _ c.in_err-read_on.ensures.fault)

@@ -8,7 +8,7 @@ invariant-parts g l = record {
   checked : (held : Option Files) → KeepsFiles held (g.F.Folder.held l.fn.files) → IsReadTo held l.fn.path l.fn.options.hex [] l.fn.parts
       → IsCheckedTo held l.fn.path l.fn.options l.fn.order l.machine l.parts;
   keeps : KeepsFiles (g.F.Folder.held l.fn.files) (g.F.Folder.held l.files);
-  same : g.F.Folder.behind l.files ≡ g.F.Folder.behind l.fn.files;
+  same : g.F.Folder.forwards_to l.files ≡ g.F.Folder.forwards_to l.fn.files;
 }
 
 abbrev pub decreases-parts : goal.decreases-parts

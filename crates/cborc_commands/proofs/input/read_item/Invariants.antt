@@ -7,7 +7,7 @@ abbrev pub invariant-parts : goal.invariant-parts
 invariant-parts g l = record {
   read : IsReadTo (g.F.Folder.held l.fn.files) l.fn.path l.fn.options.hex [] l.parts;
   keeps : KeepsFiles (g.F.Folder.held l.fn.files) (g.F.Folder.held l.files);
-  same : g.F.Folder.behind l.files ≡ g.F.Folder.behind l.fn.files;
+  same : g.F.Folder.forwards_to l.files ≡ g.F.Folder.forwards_to l.fn.files;
 }
 
 abbrev pub decreases-parts : goal.decreases-parts

@@ -70,7 +70,7 @@ returns-in-Err-clause-stopped g c =
     let begun = rw c.rest.ensures at (c.ends_before.ensures.no c.if-ends_before.false) in
     rw (c.at_item.ensures, c.start-start.ensures.is)
     (stopped_there _ _ _ _ _ _ c.items.parts _ _ c.items.invariant.taken _ begun _ _
-    (λ behind e. rw (c.rest-in-items.ensures, c.start-start.ensures.is) at (c.in-Err.ensures.stopped behind (λ h. e (not-false c.items.parts.source.ended (sym c.goes_on-goes_on.ensures ∙ h)))))
+    (λ following e. rw (c.rest-in-items.ensures, c.start-start.ensures.is) at (c.in-Err.ensures.stopped following (λ h. e (not-false c.items.parts.source.ended (sym c.goes_on-goes_on.ensures ∙ h)))))
     _ c.items.invariant.keeps c.in_ok-finish-in-Err.ensures.input)
 
 pub returns-in_err-parts-clause-stopped : goal.returns-in_err-parts-clause-stopped
@@ -94,5 +94,5 @@ returns-in_err-finish-in-Err-clause-stopped g c =
     let begun = rw c.rest.ensures at (c.ends_before.ensures.no c.if-ends_before.false) in
     let p = err_from_is_err_and c.from_residual-in_err-finish-in-Err.result c.from_residual-in_err-finish-in-Err.ensures.1 in
     rw (p.1, p.2) (stopped_without _ _ _ _ _ _ c.items.parts _ _ c.items.invariant.taken _ begun _ _
-    (λ behind e. rw (c.rest-in-items.ensures, c.start-start.ensures.is) at (c.in-Err.ensures.stopped behind (λ h. e (not-false c.items.parts.source.ended (sym c.goes_on-goes_on.ensures ∙ h)))))
+    (λ following e. rw (c.rest-in-items.ensures, c.start-start.ensures.is) at (c.in-Err.ensures.stopped following (λ h. e (not-false c.items.parts.source.ended (sym c.goes_on-goes_on.ensures ∙ h)))))
     _ _ c.items.invariant.keeps c.in_err-finish-in-Err.ensures.fault)

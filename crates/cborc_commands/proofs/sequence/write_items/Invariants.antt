@@ -7,7 +7,7 @@ abbrev pub invariant-items : goal.invariant-items
 invariant-items g l = record {
   taken : AreTaken (g.V.ItemWriter.takes l.fn.writer l.fn.options.limits) (g.V.ItemWriter.text l.fn.writer) l.fn.options l.fn.source (g.F.Folder.held l.fn.files) l.parts (g.W.Write.contents l.fn.out) (g.W.Write.contents l.out) l.count;
   keeps : KeepsFiles (g.F.Folder.held l.fn.files) (g.F.Folder.held l.files);
-  same : g.F.Folder.behind l.files ≡ g.F.Folder.behind l.fn.files;
+  same : g.F.Folder.forwards_to l.files ≡ g.F.Folder.forwards_to l.fn.files;
 }
 
 abbrev pub decreases-items : goal.decreases-items

@@ -5,7 +5,7 @@ use Rattle.cborc_commands.{specs.inner.NotWritten.IsNoText, proofs.Faults.refusa
 pub returns-in_err-canonical-clause-fault : goal.returns-in_err-canonical-clause-fault
 returns-in_err-canonical-clause-fault c =
     let p = err_from_is_err_and c.from_residual.result c.from_residual.ensures.1 in
-    rw (p.1) (refusal_is (IsNoText c.args.limits c.args.order c.args.bytes.now) _ p.0 p.2 (λ own. (c.in_err-canonical.ensures.answer, own)) (λ other. inl (_, c.in_err-canonical.ensures.answer, other)))
+    rw (p.1) (refusal_is (IsNoText c.args.limits c.args.order c.args.bytes.now) _ p.0 p.2 (λ own. (c.in_err-canonical.ensures.outcome, own)) (λ other. inl (_, c.in_err-canonical.ensures.outcome, other)))
 
 pub returns-in-Err-clause-fault : goal.returns-in-Err-clause-fault
-returns-in-Err-clause-fault c = inr (_, c.in_ok-canonical.ensures.answer)
+returns-in-Err-clause-fault c = inr (_, c.in_ok-canonical.ensures.outcome)

@@ -3,12 +3,12 @@ use Rattle.clap.specs.{Words.Text, Words.kind_of, declared.error.kind.ErrorKind.
 use Rattle.cborc_words.specs.Words.{parsed_words, texts_of, AskFor, HasFault}
 use Rattle.cborc_commands.proofs.Files.{same_files}
 use Rattle.cborc_program.proofs.program.run.Goals as goal
-use Rattle.cborc_program.{specs.Run.answered, proofs.Ends.ends}
+use Rattle.cborc_program.{specs.Run.task_run, proofs.Ends.ends}
 
 pub returns-in-Ok-clause-leaves : goal.returns-in-Ok-clause-leaves
 returns-in-Ok-clause-leaves g c =
     let same : c.as_slice.result.now ≡ c.args.words.items = search rules in
-    answered c.in-Ok.task (subst (λ (words : List Text). AskFor (parsed_words words) c.in-Ok.task) (ap texts_of same) c.in-Ok.ensures.ok) c.perform_task.ensures.performed
+    task_run c.in-Ok.task (subst (λ (words : List Text). AskFor (parsed_words words) c.in-Ok.task) (ap texts_of same) c.in-Ok.ensures.ok) c.perform_task.ensures.performed
 
 pub returns-clause-leaves : goal.returns-clause-leaves
 returns-clause-leaves g c =

@@ -5,8 +5,8 @@ use Rattle.naltvigo.proofs.Given.{given-reports, given-item, given-reported}
 use Rattle.naltvigo.proofs.canonicalising.naltvigo_canonicalise_raw.Goals as goal
 use Rattle.naltvigo.specs.Settings.{item_limits, key_order}
 
-in_buffer : (out answer items : List ℕ) (needed : ℕ) → needed ≡ length answer → take (length answer) out ≡ answer → answer ≡ items → take needed out ≡ items
-in_buffer out answer items needed n g v = ap (λ k. take k out) n ∙ g ∙ v
+in_buffer : (out outcome items : List ℕ) (needed : ℕ) → needed ≡ length outcome → take (length outcome) out ≡ outcome → outcome ≡ items → take needed out ≡ items
+in_buffer out outcome items needed n g v = ap (λ k. take k out) n ∙ g ∙ v
 
 pub returns-in-Ok-clause-accepted : goal.returns-in-Ok-clause-accepted
 returns-in-Ok-clause-accepted c = λ e.
@@ -24,7 +24,7 @@ pub returns-in-Err-clause-refused : goal.returns-in-Err-clause-refused
 returns-in-Err-clause-refused c = λ e.
     given-reported (λ (b : Bounds). IsRefusal b (key_order c.args.order) c.args.input.now) c.in-Some-limits_of.ensures.value.0
     (given-reported (λ (o : KeyOrder). IsRefusal c.in-Some-limits_of.limits o c.args.input.now) c.in-Some.ensures.value.0
-    record { why = c.in-Err.reason; holds = c.in-Err.ensures.answer; not_memory = c.report.ensures.refused e; reported = c.report.ensures.reported })
+    record { why = c.in-Err.reason; holds = c.in-Err.ensures.outcome; not_memory = c.report.ensures.refused e; reported = c.report.ensures.reported })
 
 pub returns-in-Err-clause-reason : goal.returns-in-Err-clause-reason
 returns-in-Err-clause-reason c = λ e.

@@ -11,7 +11,7 @@ returns-clause-restarted c = λ _. record {
   held = held_so _ _ _ _ c.replace.ensures.value c.into_machine-machine.ensures c.deref_mut.ensures.value;
   now = c.restart.new.self;
   holds = c.of.ensures;
-  stands = c.restart.ensures.starts;
+  agrees = c.restart.ensures.starts;
   limits = c.restart.ensures.limits;
   order_is = c.restart.ensures.order ∙ c.in-Some.ensures.value.0;
 }

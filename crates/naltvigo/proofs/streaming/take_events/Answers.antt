@@ -4,10 +4,10 @@ use Rattle.cbor_head.specs.declared.{reason.Refusal.Refusal, event.Event.Event}
 use Rattle.cbor_machine.specs.Machine.{IsDone, IsEvent, IsMore}
 use Rattle.cbor_machine.specs.declared.step.Out.TheVariants as outs
 use Rattle.cbor_machine.specs.declared.step.Out.{Out}
-use Rattle.naltvigo.proofs.Staying.{complete-then, done-behind, live-behind, live-then, not-done, not-more, refused-then, same-refusal, unrefused}
+use Rattle.naltvigo.proofs.Staying.{complete-then, done-following, live-following, live-then, not-done, not-more, refused-then, same-refusal, unrefused}
 use Rattle.naltvigo.proofs.Reported.{nothing_given, one_given, no_further}
 use Rattle.naltvigo.proofs.streaming.take_events.Goals as goal
-use Rattle.naltvigo.specs.{Streaming.HasAnswered, Streaming.IsReportedEvent, Reported.IsReported}
+use Rattle.naltvigo.specs.{Streaming.HasReturned, Streaming.IsReportedEvent, Reported.IsReported}
 
 pub events-init : goal.events-init
 events-init c = record {
@@ -23,13 +23,13 @@ events-init c = record {
 
 pub events-preserved : goal.events-preserved
 events-preserved c =
-    let answered : HasAnswered (outs.Event c.in-Event.next) c.events.machine c.step-step.new.self (take c.step-step.result.used (drop c.events.used c.args.input.now)) =
-    subst (λ (o : Out). HasAnswered o c.events.machine c.step-step.new.self (take c.step-step.result.used (drop c.events.used c.args.input.now))) c.in-Event.is (rw (take_rest c.args.input.now c.events.used) at c.step-step.ensures.answers) in
+    let is_returned : HasReturned (outs.Event c.in-Event.next) c.events.machine c.step-step.new.self (take c.step-step.result.used (drop c.events.used c.args.input.now)) =
+    subst (λ (o : Out). HasReturned o c.events.machine c.step-step.new.self (take c.step-step.result.used (drop c.events.used c.args.input.now))) c.in-Event.is (rw (take_rest c.args.input.now c.events.used) at c.step-step.ensures.returned) in
     record {
       used = search rules;
       reported = search rules;
       given = rw (take-add c.events.used c.step-step.result.used c.args.input.now, take_more_set c.events.events c.events.reported c.event_of.result c.events-test.true)
-          (one_given _ c.events.machine _ _ _ _ _ c.event_of.result c.events.invariant.given c.step-step.ensures.limits answered
+          (one_given _ c.events.machine _ _ _ _ _ c.event_of.result c.events.invariant.given c.step-step.ensures.limits is_returned
           (subst (λ (e : Event). IsReportedEvent e c.event_of.result) c.in-Event.next-is c.event_of.ensures));
       unreported = drop-set-lt (c.events.reported + 1) c.events.events c.events.reported c.event_of.result (omega arith)
           ∙ sym (drop-drop 1 c.events.reported c.events.events) ∙ ap (drop 1) c.events.invariant.unreported ∙ drop-drop 1 c.events.reported c.args.events.now;
@@ -43,19 +43,19 @@ pub returns-in-More-clause-reports : goal.returns-in-More-clause-reports
 returns-in-More-clause-reports c =
     rw (c.new.ensures, take-add c.events.used c.step-step.result.used c.args.input.now)
     (no_further _ c.events.machine _ _ _ _ _ _ outs.More c.events.invariant.given c.step-step.ensures.limits (refl, (c.step-step.ensures.more (subst IsMore (sym c.in-More.is) tt)).3)
-    (subst (λ (o : Out). HasAnswered o c.events.machine c.step-step.new.self (take c.step-step.result.used (drop c.events.used c.args.input.now))) c.in-More.is (rw (take_rest c.args.input.now c.events.used) at c.step-step.ensures.answers)))
+    (subst (λ (o : Out). HasReturned o c.events.machine c.step-step.new.self (take c.step-step.result.used (drop c.events.used c.args.input.now))) c.in-More.is (rw (take_rest c.args.input.now c.events.used) at c.step-step.ensures.returned)))
 
 pub returns-in-Done-clause-reports : goal.returns-in-Done-clause-reports
 returns-in-Done-clause-reports c =
     rw (c.new-in-Done.ensures, take-add c.events.used c.step-step.result.used c.args.input.now)
-    (no_further _ c.events.machine _ _ _ _ _ _ outs.Done c.events.invariant.given c.step-step.ensures.limits (refl, done-behind _ _ _ c.step-step.ensures.stays c.in-Done.is)
-    (subst (λ (o : Out). HasAnswered o c.events.machine c.step-step.new.self (take c.step-step.result.used (drop c.events.used c.args.input.now))) c.in-Done.is (rw (take_rest c.args.input.now c.events.used) at c.step-step.ensures.answers)))
+    (no_further _ c.events.machine _ _ _ _ _ _ outs.Done c.events.invariant.given c.step-step.ensures.limits (refl, done-following _ _ _ c.step-step.ensures.stays c.in-Done.is)
+    (subst (λ (o : Out). HasReturned o c.events.machine c.step-step.new.self (take c.step-step.result.used (drop c.events.used c.args.input.now))) c.in-Done.is (rw (take_rest c.args.input.now c.events.used) at c.step-step.ensures.returned)))
 
 pub returns-in-Refused-clause-reports : goal.returns-in-Refused-clause-reports
 returns-in-Refused-clause-reports c =
     rw (c.new-in-Refused.ensures, take-add c.events.used c.step-step.result.used c.args.input.now)
     (no_further _ c.events.machine _ _ _ _ _ _ (outs.Refused c.in-Refused.why) c.events.invariant.given c.step-step.ensures.limits (refl, c.reported.ensures, (rw c.in-Refused.is at c.step-step.ensures.refused).0)
-    (subst (λ (o : Out). HasAnswered o c.events.machine c.step-step.new.self (take c.step-step.result.used (drop c.events.used c.args.input.now))) c.in-Refused.is (rw (take_rest c.args.input.now c.events.used) at c.step-step.ensures.answers)))
+    (subst (λ (o : Out). HasReturned o c.events.machine c.step-step.new.self (take c.step-step.result.used (drop c.events.used c.args.input.now))) c.in-Refused.is (rw (take_rest c.args.input.now c.events.used) at c.step-step.ensures.returned)))
 
 pub returns-in-More-clause-complete : goal.returns-in-More-clause-complete
 returns-in-More-clause-complete c = λ _ done. elim (subst IsDone c.in-More.is (complete-then _ c.events.machine c.step-step.new.self _ _ c.step-step.result c.events.invariant.begun c.step-step.ensures.stays done).0) [ ]
@@ -85,8 +85,8 @@ returns-in-Refused-clause-again c = λ _.
 
 pub returns-clause-complete : goal.returns-clause-complete
 returns-clause-complete c = λ space done.
-    elim ((live-behind _ _ _ _ c.events.invariant.begun (omega (arith, space, c.events-test.false, c.events.auto.events))).0 done) [ ]
+    elim ((live-following _ _ _ _ c.events.invariant.begun (omega (arith, space, c.events-test.false, c.events.auto.events))).0 done) [ ]
 
 pub returns-clause-again : goal.returns-clause-again
 returns-clause-again c = λ space.
-    unrefused _ _ (live-behind _ _ _ _ c.events.invariant.begun (omega (arith, space, c.events-test.false, c.events.auto.events))).1
+    unrefused _ _ (live-following _ _ _ _ c.events.invariant.begun (omega (arith, space, c.events-test.false, c.events.auto.events))).1

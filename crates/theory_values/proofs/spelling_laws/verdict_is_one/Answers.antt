@@ -6,4 +6,4 @@ pub returns-clause-one : goal.returns-clause-one
 returns-clause-one c = one_verdict
 
 pub returns-clause-each : goal.returns-clause-each
-returns-clause-each c = λ limits r p behind s t h i. decides_for_each (IsComplaint limits r) (complaints_reported limits r) limits p behind s t h.0 i.0 h.1 i.1
+returns-clause-each c = λ limits r p following s t h i. decides_for_each (IsComplaint limits r) (complaints_reported limits r) limits p following s t h.0 i.0 h.1 i.1

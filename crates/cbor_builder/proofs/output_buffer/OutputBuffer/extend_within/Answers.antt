@@ -14,6 +14,6 @@ returns-in-Some-clause-appended c =
 pub returns-clause-appended : goal.returns-clause-appended
 returns-clause-appended c =
     let v = c.make_space.new.buf in
-    let d = c.copy_behind-self-inside in
+    let d = c.copy_after-self-inside in
     vec_extended v.items c.deref_mut.result.now d.new.buf c.args.self.now v.len c.self-2.inside.len d.result c.args.start c.args.end
-    c.deref_mut.ensures.value v.ok.0 d.auto.buf (c.in_ok-make_space.ensures.same ∙ c.self-2.view_is) c.in_ok-make_space.ensures.within c.requires.begins c.requires.ends d.ensures.behind
+    c.deref_mut.ensures.value v.ok.0 d.auto.buf (c.in_ok-make_space.ensures.same ∙ c.self-2.view_is) c.in_ok-make_space.ensures.within c.requires.begins c.requires.ends d.ensures.following

@@ -11,7 +11,7 @@ returns-in_err-first-clause-each c = λ m w n h is. absurd (no_bytes m w n (sym 
 
 pub returns-in_err-argument-clause-each : goal.returns-in_err-argument-clause-each
 returns-in_err-argument-clause-each c = λ m w n h is.
-    let s = reads_head c.in_ok-first.first.now c.in_ok-first.behind.now m w n [] h (sym c.in_ok-first.ensures.cases.0 ∙ is ∙ sym (append-nil (head m w n))) in
+    let s = reads_head c.in_ok-first.first.now c.in_ok-first.following.now m w n [] h (sym c.in_ok-first.ensures.cases.0 ∙ is ∙ sym (append-nil (head m w n))) in
     let e = c.in_err-argument.ensures in
     absurd (omega (arith, s.space (e.long refl), e.cut refl s.low))
 
@@ -23,14 +23,14 @@ returns-then-is_head-clause-found c =
     let a = c.in_ok-argument.argument in
     let split = c.in_ok-first.ensures.cases.0 in
     let none = nil_from_length a.rest.now (eqb-true (length a.rest.now) 0 (sym c.is_empty.ensures ∙ c.if-is_empty.true)) in
-    let here = head_here c.in_ok-first.first.now c.in_ok-first.behind.now a.width a.number a.rest.now (omega (arith, c.type_inv.bytes 0, ap (λ (l : List ℕ). get_or l 0 0) split)) c.in_ok-argument.ensures.spelled in
+    let here = head_here c.in_ok-first.first.now c.in_ok-first.following.now a.width a.number a.rest.now (omega (arith, c.type_inv.bytes 0, ap (λ (l : List ℕ). get_or l 0 0) split)) c.in_ok-argument.ensures.spelled in
     split ∙ here ∙ ap (λ (m : Major). head m a.width a.number ++ a.rest.now) (sym c.of_number-major.ensures.major)
     ∙ ap (λ (l : List ℕ). head c.of_number-major.result a.width a.number ++ l) none ∙ append-nil (head c.of_number-major.result a.width a.number)
 
 pub returns-then-is_head-clause-each : goal.returns-then-is_head-clause-each
 returns-then-is_head-clause-each c = λ m w n h is.
     let a = c.in_ok-argument.argument in
-    let s = reads_head c.in_ok-first.first.now c.in_ok-first.behind.now m w n [] h (sym c.in_ok-first.ensures.cases.0 ∙ is ∙ sym (append-nil (head m w n))) in
+    let s = reads_head c.in_ok-first.first.now c.in_ok-first.following.now m w n [] h (sym c.in_ok-first.ensures.cases.0 ∙ is ∙ sym (append-nil (head m w n))) in
     let o = s.only a.width a.number a.rest.now c.in_ok-argument.ensures.spelled in
     let e = same_parts c.in_ok-first.first.now m a.width w a.number n s.type o.0 o.1 in
     cc
@@ -38,7 +38,7 @@ returns-then-is_head-clause-each c = λ m w n h is.
 pub returns-else-is_empty-clause-each : goal.returns-else-is_empty-clause-each
 returns-else-is_empty-clause-each c = λ m w n h is.
     let a = c.in_ok-argument.argument in
-    let s = reads_head c.in_ok-first.first.now c.in_ok-first.behind.now m w n [] h (sym c.in_ok-first.ensures.cases.0 ∙ is ∙ sym (append-nil (head m w n))) in
+    let s = reads_head c.in_ok-first.first.now c.in_ok-first.following.now m w n [] h (sym c.in_ok-first.ensures.cases.0 ∙ is ∙ sym (append-nil (head m w n))) in
     let o = s.only a.width a.number a.rest.now c.in_ok-argument.ensures.spelled in
     let IsThat : HeadParts → Type 0 = λ f. IsHead f.major f.width f.argument in
     let same = same_parts c.in_ok-first.first.now m a.width w a.number n s.type o.0 o.1 in

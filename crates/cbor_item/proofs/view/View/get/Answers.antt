@@ -1,7 +1,7 @@
 use Rattle.std.proofs.Common.{get_or, ap, ◌∙◌, subst, arith}
 use Rattle.cbor_head.specs.Prelude.{IsValid}
 use Rattle.theory_values.{proofs.Decided.was_true, proofs.Decided.was_false, proofs.Lists.valid_at, specs.Lookup.HasValueAt}
-use Rattle.cbor_item.proofs.Lookups.{looked_by, found_by, none_behind}
+use Rattle.cbor_item.proofs.Lookups.{looked_by, found_by, none_following}
 use Rattle.cbor_item.proofs.view.View.get.Goals as goal
 use Rattle.cbor_item.{specs.ViewValue.view_value, specs.declared.view.View.TheVariants.Unsigned, proofs.ViewValues.view_value-Map}
 
@@ -20,4 +20,4 @@ loop-found-preserved c =
 
 pub returns : goal.returns
 returns c = λ v h.
-    none_behind (view_value c.args.key.now) c.in-Map.pairs.now c.loop-found.found-index (omega arith) c.loop-found.invariant v (coe 0 1 (i. HasValueAt ((ap view_value c.in-Map.is ∙ view_value-Map c.in-Map.pairs) i) (view_value c.args.key.now) v) h)
+    none_following (view_value c.args.key.now) c.in-Map.pairs.now c.loop-found.found-index (omega arith) c.loop-found.invariant v (coe 0 1 (i. HasValueAt ((ap view_value c.in-Map.is ∙ view_value-Map c.in-Map.pairs) i) (view_value c.args.key.now) v) h)

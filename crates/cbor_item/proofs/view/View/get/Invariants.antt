@@ -1,7 +1,7 @@
 use Rattle.std.proofs.Common.{drop}
 use Rattle.cbor_item.proofs.view.View.get.Given as goal
-use Rattle.cbor_item.{proofs.Lookups.LeadsBehind, specs.ViewValue.view_value}
+use Rattle.cbor_item.{proofs.Lookups.LeadsAfter, specs.ViewValue.view_value}
 
 -- a pair with the key, if there is one, is among the rest
 abbrev pub invariant-loop-found : goal.invariant-loop-found
-invariant-loop-found l = LeadsBehind (view_value l.key) l.found-items (drop l.found-index l.found-items)
+invariant-loop-found l = LeadsAfter (view_value l.key) l.found-items (drop l.found-index l.found-items)

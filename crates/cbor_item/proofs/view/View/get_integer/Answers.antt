@@ -1,7 +1,7 @@
 use Rattle.std.proofs.Common.{get_or, sym, ap, ◌∙◌, arith, to_z, of_z, w64}
 use Rattle.std.proofs.lemmas.Int.{to_z-of_z}
 use Rattle.theory_values.{proofs.Decided.was_true, proofs.Decided.was_false, specs.Lookup.HasValueAt, specs.Lookup.integer}
-use Rattle.cbor_item.proofs.Lookups.{looked_by, found_by, none_behind, same_integer}
+use Rattle.cbor_item.proofs.Lookups.{looked_by, found_by, none_following, same_integer}
 use Rattle.cbor_item.proofs.view.View.get_integer.Goals as goal
 use Rattle.cbor_item.{specs.ViewValue.view_value, specs.declared.view.View.TheVariants.Unsigned, proofs.ViewValues.view_value-Map}
 
@@ -21,5 +21,5 @@ loop-found-preserved c =
 
 pub returns : goal.returns
 returns c = λ v h.
-    none_behind (integer (to_z w64 (of_z w64 c.args.key))) c.in-Map.pairs.now c.loop-found.found-index (omega arith) c.loop-found.invariant v
+    none_following (integer (to_z w64 (of_z w64 c.args.key))) c.in-Map.pairs.now c.loop-found.found-index (omega arith) c.loop-found.invariant v
     (coe 0 1 (i. HasValueAt ((ap view_value c.in-Map.is ∙ view_value-Map c.in-Map.pairs) i) (integer (sym (to_z-of_z w64 c.args.key c.ranges.key) i)) v) h)

@@ -1,7 +1,7 @@
 use Rattle.std.proofs.Common.{get_or, ap, ◌∙◌, arith}
 use Rattle.cbor_head.specs.Value.{text}
 use Rattle.theory_values.{proofs.Decided.was_true, proofs.Decided.was_false, specs.Lookup.HasValueAt}
-use Rattle.cbor_item.proofs.Lookups.{looked_by, found_by, none_behind, same_text}
+use Rattle.cbor_item.proofs.Lookups.{looked_by, found_by, none_following, same_text}
 use Rattle.cbor_item.proofs.view.View.get_text.Goals as goal
 use Rattle.cbor_item.{specs.ViewValue.view_value, specs.declared.view.View.TheVariants.Unsigned, proofs.ViewValues.view_value-Map}
 
@@ -19,4 +19,4 @@ loop-found-preserved c =
 
 pub returns : goal.returns
 returns c = λ v h.
-    none_behind (text c.args.key.now) c.in-Map.pairs.now c.loop-found.found-index (omega arith) c.loop-found.invariant v (coe 0 1 (i. HasValueAt ((ap view_value c.in-Map.is ∙ view_value-Map c.in-Map.pairs) i) (text c.args.key.now) v) h)
+    none_following (text c.args.key.now) c.in-Map.pairs.now c.loop-found.found-index (omega arith) c.loop-found.invariant v (coe 0 1 (i. HasValueAt ((ap view_value c.in-Map.is ∙ view_value-Map c.in-Map.pairs) i) (text c.args.key.now) v) h)

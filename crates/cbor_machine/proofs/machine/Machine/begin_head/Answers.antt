@@ -3,7 +3,7 @@ use Rattle.theory_automaton.specs.Automaton.{at_item, run, reached}
 use Rattle.theory_automaton.proofs.Runs.{run-one}
 use Rattle.cbor_machine.specs.State.{state_of, frames_of, wanted_at, IsFit}
 use Rattle.cbor_machine.specs.declared.step.Out.TheVariants as outs
-use Rattle.cbor_machine.proofs.MachineStates.{answered, fit-sound, step-from}
+use Rattle.cbor_machine.proofs.MachineStates.{is_returned, fit-sound, step-from}
 use Rattle.cbor_machine.proofs.machine.Machine.begin_head.Goals as goal
 use Rattle.cbor_machine.{specs.MachineView.MachineView, specs.Steps.Ran, proofs.NextEvents.wants-all}
 
@@ -19,7 +19,7 @@ returns-in-Some-clause-begun c = λ begun t ms h.
     let within = subst (λ d. run d (at_item (frames_of container_stack)) bs ≡ reached to []) depth here in
     let walked = subst (λ p. run c.self.inside.limits.depth (state_of p container_stack) bs ≡ reached to []) (sym c.in-Item.is) within in
     let ran : Ran _ _ bs [] = record { ran = walked; taken = refl } in
-    answered outs.More _ _ t bs ms h (c.ranges.c.fits, tt)
+    is_returned outs.More _ _ t bs ms h (c.ranges.c.fits, tt)
     (λ done. omega (arith, wants.0, expected, ap wanted_at (ap (λ (m : MachineView). m.inner.position) c.self.view_is ∙ done))) (ap (λ (m : MachineView). m.depth) c.self.view_is)
     (fit-sound _ c.self.inside.limits.depth (record { open_count = refl; expected = refl; item_expected = refl; in_payload = refl; complete = refl }) (subst (λ d. IsFit d container_stack c.in-Some.position) depth c.in-Some.ensures.fits)) (omega (arith, c.self.invariant.within))
     (ap (λ (m : MachineView). m.taken + 1) c.self.view_is)

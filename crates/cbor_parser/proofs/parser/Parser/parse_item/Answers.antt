@@ -14,11 +14,11 @@ parse-requires g c = λ n.
     let most = c.bytes.ensures.most in
     let input = c.within-input.result.now in
     let small : length input ≤ 2 ^ 62 = omega (arith, most, ap length c.within-input.ensures, length-take c.bytes.result a.bytes.now) in
-    let expected = starts g.row.S.Denot g.S.Sink.stands g.S.Sink.trusts a.self.now.sink a.limits.depth input c.requires.fresh (omega (arith, small))
+    let expected = starts g.row.S.Denot g.S.Sink.agrees g.S.Sink.trusts a.self.now.sink a.limits.depth input c.requires.fresh (omega (arith, small))
     (λ t. known-begins a.limits a.bytes.now input a.limits.depth refl (c.within-input.ensures ∙ ap (λ (n : ℕ). take n a.bytes.now) c.bytes.ensures.bytes) (c.requires.known t)) in (
       (refl, tt),
       (
-        (subst (λ (x : Cell). IsExpected g.row.S.Denot g.S.Sink.stands g.S.Sink.trusts a.self.now.sink a.limits.depth input (x ∷ []) a.self.now.sink input) (sym c.counted-outermost.ensures) expected, starts-kept a.limits.depth input a.limits.keys),
+        (subst (λ (x : Cell). IsExpected g.row.S.Denot g.S.Sink.agrees g.S.Sink.trusts a.self.now.sink a.limits.depth input (x ∷ []) a.self.now.sink input) (sym c.counted-outermost.ensures) expected, starts-kept a.limits.depth input a.limits.keys),
         (small, omega arith),
       ),
     )
@@ -26,13 +26,13 @@ parse-requires g c = λ n.
 pub returns-in-Ok-clause-given : goal.returns-in-Ok-clause-given
 returns-in-Ok-clause-given g c =
     let limits = c.args.limits in
-    let behind = c.in-Ok.behind.now in
+    let following = c.in-Ok.following.now in
     let sink = c.parse.new.rules.sink in
     let input : c.within-input.result.now ≡ take limits.bytes c.args.bytes.now = c.within-input.ensures ∙ ap (λ (n : ℕ). take n c.args.bytes.now) c.bytes.ensures.bytes in
     let passed = c.in-Ok.ensures in
-    let h = subst (λ (x : List ℕ). IsBuilt g.row.S.Denot g.S.Sink.stands g.S.Sink.trusts c.args.self.now.sink limits.depth x sink behind) input passed.0 in
-    let keeps = subst (λ (x : List ℕ). KeepsBefore limits.depth limits.keys x behind) input passed.1 (spell h.item) h.bytes in
-    prefix-given _ _ _ _ _ limits c.args.bytes.now behind _ h keeps (ap (λ (x : List ℕ). length x - length behind) input)
+    let h = subst (λ (x : List ℕ). IsBuilt g.row.S.Denot g.S.Sink.agrees g.S.Sink.trusts c.args.self.now.sink limits.depth x sink following) input passed.0 in
+    let keeps = subst (λ (x : List ℕ). KeepsBefore limits.depth limits.keys x following) input passed.1 (spell h.item) h.bytes in
+    prefix-given _ _ _ _ _ limits c.args.bytes.now following _ h keeps (ap (λ (x : List ℕ). length x - length following) input)
 
 -- no rule has memory as its reason
 not-for-memory : (limits : Bounds) (input bytes : List ℕ) (f : Refusal) (lacked : Type 0) → input ≡ take limits.bytes bytes → IsStopWithin lacked limits input (errors.Refused f) → f.reason ≡ Memory → lacked

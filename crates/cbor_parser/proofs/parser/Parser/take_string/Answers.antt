@@ -7,23 +7,23 @@ use Rattle.cbor_parser.proofs.parser.Parser.take_string.Goals as goal
 use Rattle.cbor_parser.{specs.inner.Parts.IsPayload, proofs.GivenKinds.begun-so, proofs.GivenKinds.scalar-begun}
 use Rattle.cbor_parser.proofs.{KnownTexts.known-string, KnownTexts.sized, parser.Parser.take_string.Goals.In-Some}
 
-payload : (g : _) (c : In-Some g) → IsPayload false c.args.is_text c.args.count c.in-Some.size c.args.behind.now
+payload : (g : _) (c : In-Some g) → IsPayload false c.args.is_text c.args.count c.in-Some.size c.args.following.now
 payload g c =
-    known-string g.row.S.Denot g.S.Sink.stands g.S.Sink.trusts c.args.is_text c.args.top.now c.args.self.now.sink c.args.count c.in-Some.size c.args.rest.now c.args.behind.now c.requires.head c.requires.expected (are_bytes c.args.behind.now (λ i. omega (arith, c.type_inv.behind i))) c.in-Some.ensures
+    known-string g.row.S.Denot g.S.Sink.agrees g.S.Sink.trusts c.args.is_text c.args.top.now c.args.self.now.sink c.args.count c.in-Some.size c.args.rest.now c.args.following.now c.requires.head c.requires.expected (are_bytes c.args.following.now (λ i. omega (arith, c.type_inv.following i))) c.in-Some.ensures
 
-scalar : (g : _) (c : In-Some g) → IsScalar c.args.rest.now (drop c.in-Some.size c.args.behind.now) (string_value c.args.is_text (take c.in-Some.size c.args.behind.now))
-scalar g c = scalar-string c.args.is_text c.args.count c.in-Some.size c.args.rest.now c.args.behind.now c.requires.head (payload g c) (are_bytes c.args.behind.now (λ i. omega (arith, c.type_inv.behind i)))
+scalar : (g : _) (c : In-Some g) → IsScalar c.args.rest.now (drop c.in-Some.size c.args.following.now) (string_value c.args.is_text (take c.in-Some.size c.args.following.now))
+scalar g c = scalar-string c.args.is_text c.args.count c.in-Some.size c.args.rest.now c.args.following.now c.requires.head (payload g c) (are_bytes c.args.following.now (λ i. omega (arith, c.type_inv.following i)))
 
 -- the number of bytes
-used : (g : _) (c : In-Some g) → length c.args.rest.now - length c.args.behind.now + c.in-Some.size + length (drop c.in-Some.size c.args.behind.now) ≡ length c.args.rest.now
+used : (g : _) (c : In-Some g) → length c.args.rest.now - length c.args.following.now + c.in-Some.size + length (drop c.in-Some.size c.args.following.now) ≡ length c.args.rest.now
 used g c =
-    let within = (sized c.args.is_text c.args.count c.in-Some.size c.args.behind.now (payload g c)).0 in
-    omega (arith, within, length-drop c.in-Some.size c.args.behind.now, head-shorter (string_major c.args.is_text) c.args.count c.args.rest.now c.args.behind.now c.requires.head)
+    let within = (sized c.args.is_text c.args.count c.in-Some.size c.args.following.now (payload g c)).0 in
+    omega (arith, within, length-drop c.in-Some.size c.args.following.now, head-shorter (string_major c.args.is_text) c.args.count c.args.rest.now c.args.following.now c.requires.head)
 
 pub string-requires : goal.string-requires
 string-requires g c =
-    let (within, utf8) = sized c.args.is_text c.args.count c.in-Some.size c.args.behind.now (payload g (goal.at.string-requires g c).In-Some) in
-    λ n. ((refl, tt), (within, (utf8, expected-item g.row.S.Denot g.S.Sink.stands g.S.Sink.trusts c.args.top.now c.args.self.now.sink c.args.rest.now c.is_key-is_key.result c.is_key-is_key.ensures c.requires.expected)))
+    let (within, utf8) = sized c.args.is_text c.args.count c.in-Some.size c.args.following.now (payload g (goal.at.string-requires g c).In-Some) in
+    λ n. ((refl, tt), (within, (utf8, expected-item g.row.S.Denot g.S.Sink.agrees g.S.Sink.trusts c.args.top.now c.args.self.now.sink c.args.rest.now c.is_key-is_key.result c.is_key-is_key.ensures c.requires.expected)))
 
 pub returns-in-Ok-clause-takes : goal.returns-in-Ok-clause-takes
 returns-in-Ok-clause-takes g c = λ d outer start input expected.

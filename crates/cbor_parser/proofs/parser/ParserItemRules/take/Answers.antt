@@ -12,9 +12,9 @@ returns-clause-takes g c = λ first input h.
     let t = c.take_part in
     let depth : c.from-depth.result ≡ a.limits.depth = c.from-depth.ensures ∙ c.depth.ensures.depth in
     let new = open_levels Cell t.new.stack t.new.cells in
-    taken S K.stands K.trusts K.holds K.refused first a.self.now t.new.self a.limits input a.stack.now a.cells.now c.requires.cells a.rest.now h new (length t.new.cells) t.result
-    (subst (λ (n : ℕ). TakesTo S K.stands K.trusts K.holds K.refused t.result first.sink n input a.rest.now new t.new.self.sink) depth
-    (t.ensures.takes first.sink input (subst (λ (n : ℕ). IsExpected S K.stands K.trusts first.sink n input (open_levels Cell a.stack.now a.cells.now) a.self.now.sink a.rest.now) (sym depth) h.0)))
+    taken S K.agrees K.trusts K.holds K.refused first a.self.now t.new.self a.limits input a.stack.now a.cells.now c.requires.cells a.rest.now h new (length t.new.cells) t.result
+    (subst (λ (n : ℕ). TakesTo S K.agrees K.trusts K.holds K.refused t.result first.sink n input a.rest.now new t.new.self.sink) depth
+    (t.ensures.takes first.sink input (subst (λ (n : ℕ). IsExpected S K.agrees K.trusts first.sink n input (open_levels Cell a.stack.now a.cells.now) a.self.now.sink a.rest.now) (sym depth) h.0)))
     (subst (λ (n : ℕ). TakesPrefix t.result (n - a.stack.now.height) a.stack.now.top a.rest.now) depth t.ensures.prefix)
     (λ some kinds. t.ensures.fits some (c.keys.ensures ∙ kinds))
     (λ e.

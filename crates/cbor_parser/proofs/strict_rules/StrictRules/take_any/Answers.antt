@@ -5,7 +5,7 @@ use Rattle.theory_verdicts.{specs.Path.bytes_before, specs.Stop.IsStopped, proof
 use Rattle.cbor_parser.proofs.Taking.{always, key_asked, place_for, whole_is}
 use Rattle.cbor_parser.proofs.strict_rules.StrictRules.take_any.Goals as goal
 use Rattle.cbor_parser.{proofs.StrictPlaces.item_taken, proofs.StrictPlaces.head_taken, specs.inner.Cells.StrictCell, specs.inner.Cells.strict_cell}
-use Rattle.cbor_parser.specs.{inner.Items.IsFit, inner.Leaves.IsLeaf, inner.StrictRules.Expect, inner.Rules.behind, Stack.around, Stack.open_levels}
+use Rattle.cbor_parser.specs.{inner.Items.IsFit, inner.Leaves.IsLeaf, inner.StrictRules.Expect, inner.Rules.following, Stack.around, Stack.open_levels}
 
 pub returns-in-Leaf-clause-takes : goal.returns-in-Leaf-clause-takes
 returns-in-Leaf-clause-takes c = λ first input h.
@@ -35,7 +35,7 @@ returns-else-stack-cells-clause-takes c = λ first input h.
     let at = ap (λ (x : List ℕ). strict_cell c.in-Opens.expected c.in-Opens.left ((length x - length a.rest.now) + used) ∷ open_levels StrictCell k a.cells.now) (sym h.0.its) in (
       opens.some,
       opens.inside,
-      subst (λ (x : List StrictCell). Expect first a.self.now a.limits input x (behind used a.rest.now)) (at ∙ sym (c.push.ensures.levels ∙ ap (λ (l : StrictCell). l ∷ open_levels StrictCell k a.cells.now) c.strict_cell.ensures))
+      subst (λ (x : List StrictCell). Expect first a.self.now a.limits input x (following used a.rest.now)) (at ∙ sym (c.push.ensures.levels ∙ ap (λ (l : StrictCell). l ∷ open_levels StrictCell k a.cells.now) c.strict_cell.ensures))
           (head_taken first a.self.now a.limits input k.top others a.rest.now h used opens.some opens.inside _ (take_rest a.rest.now used) c.in-Opens.expected c.in-Opens.left opens (place.fits here.fits) fit),
     )
 

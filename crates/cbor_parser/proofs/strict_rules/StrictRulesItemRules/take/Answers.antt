@@ -2,7 +2,7 @@ use Rattle.std.proofs.Common.{ℕ, false, true≢false, ◌∙◌, ◌+◌, ◌-
 use Rattle.std.proofs.lemmas.List.{take_rest}
 use Rattle.cbor_parser.proofs.strict_rules.StrictRulesItemRules.take.Goals as goal
 use Rattle.cbor_parser.proofs.{StrictPlaces.item_taken, StrictPlaces.head_taken, Taking.height_is}
-use Rattle.cbor_parser.specs.inner.{Cells.StrictCell, Cells.strict_cell, Items.IsFit, Items.OpensWith, Leaves.IsLeaf, StrictRules.Expect, Rules.behind}
+use Rattle.cbor_parser.specs.inner.{Cells.StrictCell, Cells.strict_cell, Items.IsFit, Items.OpensWith, Leaves.IsLeaf, StrictRules.Expect, Rules.following}
 use Rattle.cbor_parser.specs.Stack.{around, open_levels}
 
 pub returns-in-Item-clause-takes : goal.returns-in-Item-clause-takes
@@ -31,6 +31,6 @@ returns-then-stack-cells-clause-takes c = λ first input h.
     let place = ap (λ (x : List ℕ). strict_cell c.in-Opens.expected c.in-Opens.left ((length x - length a.rest.now) + used) ∷ open_levels StrictCell k a.cells.now) (sym h.0.its) in (
       opens.some,
       opens.inside,
-      subst (λ (x : List StrictCell). Expect first a.self.now a.limits input x (behind used a.rest.now)) (place ∙ sym (c.push.ensures.levels ∙ ap (λ (l : StrictCell). l ∷ open_levels StrictCell k a.cells.now) c.strict_cell.ensures))
+      subst (λ (x : List StrictCell). Expect first a.self.now a.limits input x (following used a.rest.now)) (place ∙ sym (c.push.ensures.levels ∙ ap (λ (l : StrictCell). l ∷ open_levels StrictCell k a.cells.now) c.strict_cell.ensures))
           (head_taken first a.self.now a.limits input k.top others a.rest.now h used opens.some opens.inside _ (take_rest a.rest.now used) c.in-Opens.expected c.in-Opens.left opens space fit),
     )

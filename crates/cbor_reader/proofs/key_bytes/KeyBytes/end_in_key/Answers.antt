@@ -4,7 +4,7 @@ use Rattle.theory_values.specs.Parts.{close}
 use Rattle.cbor_builder.specs.Built.{Built, built, IsRepeatReported}
 use Rattle.cbor_reader.proofs.KeysGiven.{in-container, end-takes, ended-inner}
 use Rattle.cbor_reader.proofs.key_bytes.KeyBytes.end_in_key.Goals as goal
-use Rattle.cbor_reader.{specs.inner.KeyBytes.behind_item, proofs.RepeatsReported.keys-repeat}
+use Rattle.cbor_reader.{specs.inner.KeyBytes.after_item, proofs.RepeatsReported.keys-repeat}
 
 pub end_if_distinct-requires : goal.end_if_distinct-requires
 end_if_distinct-requires c = record { container = in-container c.args.is_map c.args.self.now c.requires.full (inl c.requires.inside) }
@@ -27,5 +27,5 @@ returns-clause-ends c = λ yes.
     let some : suc c.settle.new.self.inside ≡ old.inside = omega (arith, c.requires.inside, stays) in
     let none = ap is_some c.in_default.is in
     ended-inner c.args.is_map old c.settle.new.self some (c.in_ok-repeat.ensures.distinct.0 none)
-    (c.in_ok-settle.ensures.builder (ap (λ (x : Built). x.refused) (c.in_ok-repeat.ensures.ended none)) ∙ ap (λ (x : Built). built x.order (behind_item (old.inside - 1) x.open_levels)) (c.in_ok-repeat.ensures.ended none)
-    ∙ ap (λ (n : ℕ). built old.builder.order (behind_item n (close old.builder.order old.builder.open_levels))) (sym stays))
+    (c.in_ok-settle.ensures.builder (ap (λ (x : Built). x.refused) (c.in_ok-repeat.ensures.ended none)) ∙ ap (λ (x : Built). built x.order (after_item (old.inside - 1) x.open_levels)) (c.in_ok-repeat.ensures.ended none)
+    ∙ ap (λ (n : ℕ). built old.builder.order (after_item n (close old.builder.order old.builder.open_levels))) (sym stays))

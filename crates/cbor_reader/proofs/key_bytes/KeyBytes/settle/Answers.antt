@@ -1,10 +1,10 @@
 use Rattle.std.proofs.Common.{◌≡◌, ℕ, zero, suc, List, false, refl}
 use Rattle.theory_values.specs.Parts.{Open}
 use Rattle.cbor_reader.proofs.key_bytes.KeyBytes.settle.Goals as goal
-use Rattle.cbor_reader.specs.inner.KeyBytes.{behind_item}
+use Rattle.cbor_reader.specs.inner.KeyBytes.{after_item}
 
 -- nothing is given within a key
-unchanged : (n : ℕ) (os : List Open) → (n ≡ 0 → ⊥) → os ≡ behind_item n os
+unchanged : (n : ℕ) (os : List Open) → (n ≡ 0 → ⊥) → os ≡ after_item n os
 unchanged zero os some = absurd (some refl)
 unchanged (suc n) os some = refl
 

@@ -3,7 +3,7 @@ use Rattle.std.specs.Option.{is_some}
 use Rattle.cbor_parser.specs.Sink.{Repeats}
 use Rattle.cbor_reader.proofs.ViewGiven.{keys-end, views-end, ended, repeats}
 use Rattle.cbor_reader.proofs.view_sink.ViewSinkSink.end.Goals as goal
-use Rattle.cbor_reader.specs.{inner.KeyBytes.keys_stand, declared.key_bytes.KeyBytes.KeyBytes}
+use Rattle.cbor_reader.specs.{inner.KeyBytes.keys_agree, declared.key_bytes.KeyBytes.KeyBytes}
 
 pub end-requires : goal.end-requires
 end-requires c = record { full = keys-end c.args.is_map c.args.self.now c.requires.full }
@@ -14,7 +14,7 @@ end-requires-2 c = record { container = views-end c.args.is_map c.args.self.now 
 pub returns-in-Some-clause-repeats : goal.returns-in-Some-clause-repeats
 returns-in-Some-clause-repeats c =
     let old = c.args.self.now in
-    repeats c.args.is_map old c.in-Some.repeat (subst (λ reported. IfSome reported (Repeats KeyBytes keys_stand false c.args.is_map old.keys)) c.in-Some.is c.in_ok-repeat.ensures.repeats)
+    repeats c.args.is_map old c.in-Some.repeat (subst (λ reported. IfSome reported (Repeats KeyBytes keys_agree false c.args.is_map old.keys)) c.in-Some.is c.in_ok-repeat.ensures.repeats)
 
 pub returns-clause-ends : goal.returns-clause-ends
 returns-clause-ends c = λ yes.

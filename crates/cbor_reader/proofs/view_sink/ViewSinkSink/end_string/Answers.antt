@@ -4,7 +4,7 @@ use Rattle.theory_verdicts.specs.Reading.{string_value}
 use Rattle.cbor_parser.specs.Sink.{Gives}
 use Rattle.cbor_reader.proofs.ViewGiven.{expected, takes, utf8-expected, whole-expected, string-ended}
 use Rattle.cbor_reader.proofs.view_sink.ViewSinkSink.end_string.Goals as goal
-use Rattle.cbor_reader.specs.{inner.KeyBytes.keys_stand, declared.key_bytes.KeyBytes.KeyBytes}
+use Rattle.cbor_reader.specs.{inner.KeyBytes.keys_agree, declared.key_bytes.KeyBytes.KeyBytes}
 
 pub string-requires : goal.string-requires
 string-requires c =
@@ -28,7 +28,7 @@ returns-in_ok-copied_text-clause-given c =
     let t = c.args.is_text in
     let whole = take_all (length c.as_slice-content.result.now) c.as_slice-content.result.now (omega arith) ∙ c.as_slice-content.ensures in
     string-ended c.args.is_key t old (record { keys = c.string.new.self; views = c.copied_text.new.self; joined = old.joined })
-    (subst (λ (x : List ℕ). Gives KeyBytes keys_stand c.args.is_key (string_value t x) old.keys c.string.new.self) whole c.in_ok-string.ensures.given)
+    (subst (λ (x : List ℕ). Gives KeyBytes keys_agree c.args.is_key (string_value t x) old.keys c.string.new.self) whole c.in_ok-string.ensures.given)
     (c.in_ok-copied_text.ensures.given
     ∙ ap₂ (λ (b : Bool) (x : List ℕ). give (string_value b x) (open_levels old.views)) (sym c.if-is_text.true) (c.from_utf8_unchecked-text.ensures ∙ c.as_slice-content.ensures))
 
@@ -38,5 +38,5 @@ returns-in_ok-copied_bytes-clause-given c =
     let t = c.args.is_text in
     let whole = take_all (length c.as_slice-content.result.now) c.as_slice-content.result.now (omega arith) ∙ c.as_slice-content.ensures in
     string-ended c.args.is_key t old (record { keys = c.string.new.self; views = c.copied_bytes.new.self; joined = old.joined })
-    (subst (λ (x : List ℕ). Gives KeyBytes keys_stand c.args.is_key (string_value t x) old.keys c.string.new.self) whole c.in_ok-string.ensures.given)
+    (subst (λ (x : List ℕ). Gives KeyBytes keys_agree c.args.is_key (string_value t x) old.keys c.string.new.self) whole c.in_ok-string.ensures.given)
     (c.in_ok-copied_bytes.ensures.given ∙ ap₂ (λ (b : Bool) (x : List ℕ). give (string_value b x) (open_levels old.views)) (sym c.if-is_text.false) c.as_slice-content.ensures)

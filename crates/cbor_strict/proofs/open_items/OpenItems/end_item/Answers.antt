@@ -1,6 +1,6 @@
 use Rattle.std.proofs.Common.{refl}
 use Rattle.cbor_head.specs.{Prelude.refusal, declared.reason.Reason.TheVariants.KeyOrder}
-use Rattle.cbor_strict.proofs.OpenStates.{Closing, has_closed, few_keys, key_has_ended, behind_member, behind_value, behind_key, refused_key}
+use Rattle.cbor_strict.proofs.OpenStates.{Closing, has_closed, few_keys, key_has_ended, closed_member, after_value, after_key, refused_key}
 use Rattle.cbor_strict.proofs.open_items.OpenItems.end_item.Goals as goal
 
 pub end_value-requires : goal.end_value-requires
@@ -21,18 +21,18 @@ overflow_sub-taken c =
     let k : Closing c.args.self.now c.close.new.self c.args.open c.args.taken c.expected.result = record { closed = c.close.ensures; some = c.expected.ensures.some; none = c.expected.ensures.none } in
     (refused_key c.args.self.now c.close.new.self c.args.open c.args.taken c.in-Err.length c.expected.result r.b r.e r.t (refusal KeyOrder 0 0) k r.ended r.counted r.all c.in-Key.is c.in-Err.ensures).0
 
-pub returns-in-Member-clause-answers : goal.returns-in-Member-clause-answers
-returns-in-Member-clause-answers c = λ b e t h n m.
-    behind_member c.args.self.now _ c.close.new.self c.args.open c.args.taken c.expected.result b e t (record { closed = c.close.ensures; some = c.expected.ensures.some; none = c.expected.ensures.none }) h n c.in-Member.is refl refl refl
+pub returns-in-Member-clause-returned : goal.returns-in-Member-clause-returned
+returns-in-Member-clause-returned c = λ b e t h n m.
+    closed_member c.args.self.now _ c.close.new.self c.args.open c.args.taken c.expected.result b e t (record { closed = c.close.ensures; some = c.expected.ensures.some; none = c.expected.ensures.none }) h n c.in-Member.is refl refl refl
 
-pub returns-in-Value-clause-answers : goal.returns-in-Value-clause-answers
-returns-in-Value-clause-answers c = λ b e t h n m.
-    behind_value c.args.self.now _ c.close.new.self c.end_value.new.self c.args.open c.args.taken c.expected.result b e t (record { closed = c.close.ensures; some = c.expected.ensures.some; none = c.expected.ensures.none }) h n c.in-Value.is refl refl refl c.end_value.ensures
+pub returns-in-Value-clause-returned : goal.returns-in-Value-clause-returned
+returns-in-Value-clause-returned c = λ b e t h n m.
+    after_value c.args.self.now _ c.close.new.self c.end_value.new.self c.args.open c.args.taken c.expected.result b e t (record { closed = c.close.ensures; some = c.expected.ensures.some; none = c.expected.ensures.none }) h n c.in-Value.is refl refl refl c.end_value.ensures
 
-pub returns-in-Ok-clause-answers : goal.returns-in-Ok-clause-answers
-returns-in-Ok-clause-answers c = λ b e t h n m.
-    behind_key c.args.self.now _ c.close.new.self c.end_key.new.self c.args.open c.args.taken c.expected.result b e t (record { closed = c.close.ensures; some = c.expected.ensures.some; none = c.expected.ensures.none }) h n c.in-Key.is refl refl refl c.in-Ok.ensures
+pub returns-in-Ok-clause-returned : goal.returns-in-Ok-clause-returned
+returns-in-Ok-clause-returned c = λ b e t h n m.
+    after_key c.args.self.now _ c.close.new.self c.end_key.new.self c.args.open c.args.taken c.expected.result b e t (record { closed = c.close.ensures; some = c.expected.ensures.some; none = c.expected.ensures.none }) h n c.in-Key.is refl refl refl c.in-Ok.ensures
 
-pub returns-in-Err-clause-answers : goal.returns-in-Err-clause-answers
-returns-in-Err-clause-answers c = λ b e t h n m to.
+pub returns-in-Err-clause-returned : goal.returns-in-Err-clause-returned
+returns-in-Err-clause-returned c = λ b e t h n m to.
     (refused_key c.args.self.now c.close.new.self c.args.open c.args.taken c.in-Err.length c.expected.result b e t _ (record { closed = c.close.ensures; some = c.expected.ensures.some; none = c.expected.ensures.none }) h n m c.in-Key.is c.in-Err.ensures).1 to c.new.ensures

@@ -4,19 +4,19 @@ use Rattle.cbor_tree_reader.proofs.HeldKeys.{none-waits, keys_at_top, top-held, 
 use Rattle.cbor_tree_reader.proofs.tree_items.TreeItems.repeated.Goals as goal
 use Rattle.cbor_tree_reader.specs.inner.HeldKeys.{IsAdded}
 
-pub returns-in_default-clause-answers : goal.returns-in_default-clause-answers
-returns-in_default-clause-answers c = λ h. let s = c.args.self.now in none-waits (s.keys ∷ reverse s.outer.items) s.builder.open_levels c.in_default.ensures h
+pub returns-in_default-clause-returned : goal.returns-in_default-clause-returned
+returns-in_default-clause-returned c = λ h. let s = c.args.self.now in none-waits (s.keys ∷ reverse s.outer.items) s.builder.open_levels c.in_default.ensures h
 
-pub returns-then-branch-clause-answers : goal.returns-then-branch-clause-answers
-returns-then-branch-clause-answers c = λ h.
+pub returns-then-branch-clause-returned : goal.returns-then-branch-clause-returned
+returns-then-branch-clause-returned c = λ h.
     let s = c.args.self.now in
     let ss = reverse s.outer.items in
     let os = s.builder.open_levels in
     fresh-key s.keys c.add.new.self ss os c.in-Some.key.now c.in-Some.ensures h
     (subst (IsAdded c.in-Some.key.now (keys_at_top os) c.add.new.self) c.if-branch.true (c.in_ok-add.ensures.added (keys_at_top os) (top-held s.keys ss os h)))
 
-pub returns-clause-answers : goal.returns-clause-answers
-returns-clause-answers c = λ h.
+pub returns-clause-returned : goal.returns-clause-returned
+returns-clause-returned c = λ h.
     let s = c.args.self.now in
     let ss = reverse s.outer.items in
     let os = s.builder.open_levels in (

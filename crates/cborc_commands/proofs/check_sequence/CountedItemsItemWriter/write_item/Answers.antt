@@ -7,8 +7,8 @@ use Rattle.cborc_commands.proofs.Taken.{item_accepted, written_of}
 pub returns-in-Err-clause-stopped : goal.returns-in-Err-clause-stopped
 returns-in-Err-clause-stopped g c =
     if_err c.unless_cut.result _ _
-    (λ fault h behind ends.
-    uncounted c.args.limits c.args.bytes.now behind c.in-Err.refusal (settled c.args.goes_on behind c.in-Err.refusal ends h.1) fault h.0 (rules_of c.args.self.now.accepted) c.in-Err.ensures.refused)
+    (λ fault h following ends.
+    uncounted c.args.limits c.args.bytes.now following c.in-Err.refusal (settled c.args.goes_on following c.in-Err.refusal ends h.1) fault h.0 (rules_of c.args.self.now.accepted) c.in-Err.ensures.refused)
     c.unless_cut.ensures.fault
 
 pub returns-in-Ok-clause-written : goal.returns-in-Ok-clause-written

@@ -8,13 +8,13 @@ pub returns-in_err-write_gap-clause-stopped : goal.returns-in_err-write_gap-clau
 returns-in_err-write_gap-clause-stopped g c =
     let p = err_from_is_err_and c.from_residual.result c.from_residual.ensures.1 in
     rw (p.1, p.2)
-    (λ behind ends. gap_not_written c.args.self.now.event_style c.args.start c.args.limits (c.args.bytes.now ++ behind) _ _ _ c.in_err-write_gap.ensures.fault.0 c.in_err-write_gap.ensures.fault.1 c.in_err-write_gap.ensures.fault.2)
+    (λ following ends. gap_not_written c.args.self.now.event_style c.args.start c.args.limits (c.args.bytes.now ++ following) _ _ _ c.in_err-write_gap.ensures.fault.0 c.in_err-write_gap.ensures.fault.1 c.in_err-write_gap.ensures.fault.2)
 
 pub returns-in_err-size-clause-stopped : goal.returns-in_err-size-clause-stopped
 returns-in_err-size-clause-stopped g c =
     let p = err_from_is_err_and c.from_residual-in_err-size.result c.from_residual-in_err-size.ensures.1 in
     rw (p.1, p.2)
-    (λ behind ends. item_not_listed c.args.self.now.event_style c.args.start c.args.limits c.args.bytes.now _ _ _ c.in_ok-write_gap.ensures.written behind
+    (λ following ends. item_not_listed c.args.self.now.event_style c.args.start c.args.limits c.args.bytes.now _ _ _ c.in_ok-write_gap.ensures.written following
     (elim c.else-goes_on.branch [
       | else-goes_on-via-then-goes_on+else-is_undecided w ↦ λ f v. inr ((w.is_undecided.ensures w.if-is_undecided.false).within f v)
       | else-goes_on-via-else-goes_on w ↦ λ f v. inl (ends w.if-goes_on.false)

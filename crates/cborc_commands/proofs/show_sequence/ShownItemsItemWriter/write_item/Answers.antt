@@ -11,8 +11,8 @@ print_prefix-requires g c = (c.in-Ok.size, c.in-Ok.ensures.accepted)
 pub returns-in-Err-clause-stopped : goal.returns-in-Err-clause-stopped
 returns-in-Err-clause-stopped g c =
     if_err c.unless_cut.result _ _
-    (λ fault h behind ends.
-    item_not_shown c.args.limits c.args.bytes.now behind c.in-Err.refusal (settled c.args.goes_on behind c.in-Err.refusal ends h.1) fault h.0 c.args.self.now.text_style (g.W.Write.contents c.args.out.now) c.in-Err.ensures.refused)
+    (λ fault h following ends.
+    item_not_shown c.args.limits c.args.bytes.now following c.in-Err.refusal (settled c.args.goes_on following c.in-Err.refusal ends h.1) fault h.0 c.args.self.now.text_style (g.W.Write.contents c.args.out.now) c.in-Err.ensures.refused)
     c.unless_cut.ensures.fault
 
 pub returns-in_err-print_prefix-in-Ok-clause-stopped : goal.returns-in_err-print_prefix-in-Ok-clause-stopped
@@ -20,7 +20,7 @@ returns-in_err-print_prefix-in-Ok-clause-stopped g c =
     let p = err_from_is_err_and c.from_residual.result c.from_residual.ensures.1 in
     let read = c.in-Ok.ensures.accepted in
     rw (p.1, p.2)
-    (λ behind ends. text_not_taken _ _ _ read c.args.self.now.text_style _ _ behind _ (c.in_err-print_prefix-in-Ok.ensures.fault read.item read.verdict))
+    (λ following ends. text_not_taken _ _ _ read c.args.self.now.text_style _ _ following _ (c.in_err-print_prefix-in-Ok.ensures.fault read.item read.verdict))
 
 pub returns-in_ok-print_prefix-in-Ok-clause-written : goal.returns-in_ok-print_prefix-in-Ok-clause-written
 returns-in_ok-print_prefix-in-Ok-clause-written g c =

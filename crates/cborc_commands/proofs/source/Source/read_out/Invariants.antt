@@ -9,7 +9,7 @@ invariant-parts g l = record {
   hex : l.self.hex ≡ l.fn.self.hex;
   far : IsFurther (g.F.Folder.held l.fn.files) l.fn.path l.fn.self l.self;
   keeps : KeepsFiles (g.F.Folder.held l.fn.files) (g.F.Folder.held l.files);
-  same : g.F.Folder.behind l.files ≡ g.F.Folder.behind l.fn.files;
+  same : g.F.Folder.forwards_to l.files ≡ g.F.Folder.forwards_to l.fn.files;
 }
 
 abbrev pub decreases-parts : goal.decreases-parts

@@ -9,5 +9,5 @@ returns-clause-starts c = record {
   holds = search rules;
   depth_is = refl;
   bytes_is = refl;
-  stands = starts c.args.limits [] refl;
+  agrees = starts c.args.limits [] refl;
 }

@@ -1,5 +1,0 @@
-use Rattle.cbor_reader.proofs.laws.same_meaning_of_equal_answers.Goals as goal
-use Rattle.cbor_reader.proofs.Comparing.{meaning_by_answers}
-
-pub returns : goal.returns
-returns c = meaning_by_answers
