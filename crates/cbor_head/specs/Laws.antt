@@ -25,6 +25,6 @@ IsFirstComplaint limits rules s t c = IsFirstOf (IsComplaint limits rules s) t c
 abbrev pub IsWithout : Bounds → Rules → Spelling → ℕ → Type 0
 IsWithout limits rules s t = HasNoneOf (IsComplaint limits rules s) t
 
--- the answer that an item starting with p decides, from its complaints
+-- the verdict that an item starting with p decides, from its complaints
 abbrev pub Decides : Bounds → Rules → List ℕ → List ℕ → Spelling → Decision → Type 0
 Decides limits rules p following s x = DecidesBy (IsComplaint limits rules) limits p following s x

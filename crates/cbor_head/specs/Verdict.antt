@@ -1,4 +1,4 @@
--- The answer for an input: the item that it starts with, or the refusal (RFC 8949, sections 3 and 5.3.1, and appendix F).
+-- The verdict on an input: the item that it starts with, or the refusal (RFC 8949, sections 3 and 5.3.1, and appendix F).
 use Rattle.std.specs.Prelude.{ℕ, ◌+◌, ◌≡◌, ◌≢◌, ◌<◌, ◌≤◌, ◌⊎◌, ◌++◌, ◌==◌, ◌||◌, ◌&&◌, ◌%◌, nat_le, if◌then◌else◌, List, [], ◌∷◌, length, take}
 use Rattle.cbor_head.specs.Spelling.{Spelling, spell, IsItem}
 use Rattle.cbor_head.specs.Complaint.{Rules, Complaint, IsComplaint}
@@ -52,14 +52,14 @@ pub data Decision : Type 0 where
   accepted : Spelling → Decision
   refused : Refusal → Decision
 
--- the answer that an item starting with p decides, from its complaints P, given the bytes that follow p
+-- the verdict that an item starting with p decides, from its complaints P, given the bytes that follow p
 abbrev pub DecidesBy : (Spelling → Complaint → Type 0) → Bounds → List ℕ → List ℕ → Spelling → Decision → Type 0
 DecidesBy P limits p following s (accepted t) = (t ≡ s) × (spell s ≡ p) × HasNoneOf (P s) (length p)
 DecidesBy P limits p following s (refused f) =
     ((c : Complaint) × IsFirstOf (P s) (length p) c × (f ≡ refusal c.reason c.place c.end))
     ⊎ (HasNoneOf (P s) (length p) × (spell s ≢ p) × IsFormError limits p following f)
 
--- the answer for an input, from the complaints of items
+-- the verdict on an input, from the complaints of items
 pub record IsVerdictBy (P : Spelling → Complaint → Type 0) (limits : Bounds) (input : List ℕ) (outcome : Decision) : Type 0 where
   -- the longest beginning, and an item that starts with it
   pub p : List ℕ

@@ -46,7 +46,7 @@ pub(crate) fn limits<R: Abort>(rt: &R, depth: u16, bytes: u64) -> Limits {
     Limits::new(depth, bytes).expect(rt, "limits")
 }
 
-/// Why a text does not stand for bytes.
+/// Why a text is not bytes in hex digits.
 #[derive(Debug, Drop)]
 pub(crate) enum BadHex {
     Digit,

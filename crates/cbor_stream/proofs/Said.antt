@@ -14,7 +14,7 @@ use Rattle.cbor_stream.specs.StrictMachine.{StrictMachineView, AgreesAmid, IsStr
 use Rattle.cbor_stream.specs.Said.{Tells, SaysMore, SaysDone, SaysRefused, Says, IsOfWhole}
 use Rattle.cbor_stream.specs.Reasons.{IsStrictReason}
 
--- an input has one answer
+-- an input has one result
 pub tells_one : (limits : Bounds) (o : KeyOrder) (input : List ℕ) (x y : Result ℕ Refusal) → Tells limits o input x → Tells limits o input y → x ≡ y
 tells_one limits o input (Ok n) (Ok k) a b = let same = one_item limits (strict o) input a.item b.item a.verdict b.verdict in ap Ok (a.size ∙ ap (λ (s : Spelling). length (spell s)) same ∙ sym b.size)
 tells_one limits o input (Ok n) (Err g) a b = absurd (not_both limits (strict o) input a.item g a.verdict b)

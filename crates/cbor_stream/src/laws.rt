@@ -8,7 +8,7 @@ ghost use Rattle.cbor_machine.specs.declared.step.Out.{Out};
 ghost use Rattle.cbor_stream.specs.StrictMachine.{StrictMachineView, limits_of};
 ghost use Rattle.cbor_stream.specs.Said.{Says, Tells, IsOfWhole};
 
-/// An input has one answer, `Tells`, which `cbor_strict::check_canonical` returns. However its bytes
+/// An input has one result, `Tells`, which `cbor_strict::check_canonical` returns. However its bytes
 /// are cut, it is what `StrictMachine::check` reports of them.
 pub fn parts_are_the_whole()
     ensures one { (limits : Bounds) (o : KeyOrder) (input : List ℕ) (x y : Result ℕ Refusal)

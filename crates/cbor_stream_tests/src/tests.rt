@@ -16,7 +16,7 @@ pub(crate) fn outcome_of(step: Step, taken: u64) -> Option<Result<u64, Refusal>>
     }
 }
 
-// Whether the answer after a part is that for all bytes so far, and the end is that for all. Of a long
+// Whether the result after a part is that for all bytes so far, and the end is that for all. Of a long
 // input the parts are those near its ends, and one of 64.
 pub(crate) fn is_alike(
     alloc: Global,
@@ -129,7 +129,7 @@ fn judges_kinds_of_keys_at_a_cut(rt: HostRuntime) -> Result<(), Fail> {
 // and that no canonical item has.
 static BYTES: [u8; 9] = [0x00, 0x01, 0x18, 0x41, 0x61, 0x80, 0xa1, 0xc3, 0xff];
 
-// Whether each input of these bytes and three more is answered alike, one byte a call.
+// Whether each input of these bytes and three more has the same result, one byte a call.
 fn are_alike(alloc: Global, first: &[u8], limits: Limits) -> Result<bool, AllocError> {
     for x in BYTES {
         for y in BYTES {

@@ -2,7 +2,7 @@
 
 ghost use Rattle.std.specs.Prelude.{◌<◌};
 
-use crate::tests::{outcome_of, is_alike};
+use crate::tests::{is_alike, outcome_of};
 use cbor_head::{Keys, Limits};
 use cbor_stream::{Out, StrictMachine};
 use cbor_strict::{KeyOrder, check_canonical};
@@ -22,7 +22,7 @@ fn next(seed: u32) -> u32 {
     seed.wrapping_mul(1_664_525).wrapping_add(1_013_904_223)
 }
 
-// Whether the input is answered as a slice is, cut into parts of at most this length, each another.
+// Whether the result is that of a slice, for the input cut into parts of at most this length, each another.
 fn is_alike_cut(alloc: Global, input: &[u8], limits: Limits, most: u32, seed: u32) -> bool {
     let mut machine = StrictMachine::new(alloc, limits, KeyOrder::Bytewise);
     let mut seed = seed;

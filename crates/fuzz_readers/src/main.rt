@@ -95,7 +95,7 @@ fn report_line<W: Write>(alloc: Global, line: &str, out: &mut W) -> io::Result<(
     writeln!(out)
 }
 
-// The limits that a line begins with, and the bytes that the hex digits after them stand for.
+// The limits that a line begins with, and the bytes of the hex digits after them.
 fn input_of(alloc: Global, line: &str) -> io::Result<(Limits, Vec<u8>)> {
     let Some((limits, digits)) = limits_of(line) else {
         return Err(malformed());

@@ -88,7 +88,7 @@ pub record ReportsOn (old new : MachineView) (bs : List ℕ) (status : ℕ) (eve
   pub gives : Gives old mid prefix given
   pub ends : ((status ≡ 7) × (last ≡ []) × (new ≡ mid)) ⊎ ((out : Out) × IsReportedEnd out new status r × HasReturned out mid new last)
 
--- Where the item was complete, or refused, the call used nothing and answered the same.
+-- Where the item was complete, or refused, the call used nothing and returned the same.
 pub record StaysSo (old new : SavedMachine) (used status : ℕ) (r : NaltvigoRefusal) : Type 0 where
   pub complete : (m : MachineView) → Holds old m → IsComplete m → (status ≡ 0) × (used ≡ 0) × Holds new m
   pub refused : (m : MachineView) → Holds old m → IfSome m.refusal (λ f. (status ≡ 1) × IsReported f r × (used ≡ 0) × Holds new m)

@@ -8,7 +8,7 @@ use Rattle.theory_verdicts.proofs.Judged.{zero_item, zero_spelled, zeros, zeros_
 use Rattle.theory_verdicts.specs.Path.{Level, a_member, a_key, a_value, tagged, level_bytes, IsClean, bytes_before, AreClean, HasEnded}
 use Rattle.theory_verdicts.specs.{Judged.IsJudged, Judged.Never, SoFar.array_bytes, SoFar.map_bytes}
 
--- ---- a level as a frame, in which zeros stand for what is still to come
+-- ---- a level as a frame, in which zeros represent what is still to come
 
 abbrev pub frame_of : Level → Frame
 frame_of (a_member w left done) = frames.a_member w done (zeros left)

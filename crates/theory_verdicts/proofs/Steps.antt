@@ -85,7 +85,7 @@ since b old new t bs q ns a deep ran =
 
 -- ---- a head
 
--- a head's event stands for one mark
+-- a head's event represents one mark
 once : (position : Position) (fs : List frames.Frame) (q : Place) (kind : EventKind) → state_of position fs ≡ state_at q → IsHeadExpected q → item_events.IsExpected (is_in_payload position) kind → times kind ≡ 1
 once (positions.Payload chunk type left) fs (in_payload c m n gs) kind e h d = absurd h
 once (positions.Payload chunk type left) fs done kind e h d = absurd h

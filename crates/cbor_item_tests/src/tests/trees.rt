@@ -67,7 +67,7 @@ fn checks_keys_of_keys(rt: HostRuntime) -> Result<(), Fail> {
     let alloc = rt.alloc();
     let equal = item_of(alloc, "0 0 0 1 m:2 2*k").ok_or("no item")?;
     let Err((item, Reason::RepeatedKey)) = Tree::of(alloc, equal) else {
-        panic!(rt; "another answer")
+        panic!(rt; "another result")
     };
     let map = first_key(&item).and_then(first_key);
     assert!(rt; map.is_some_and(has_equal_keys));
@@ -91,14 +91,14 @@ fn returns_the_item(rt: HostRuntime) -> Result<(), Fail> {
     let alloc = rt.alloc();
     match Tree::of(alloc, item_of(alloc, "0 0 0 1 m:2").ok_or("no item")?) {
         Err((item, Reason::RepeatedKey)) => assert!(rt; has_equal_keys(&item)),
-        _ => panic!(rt; "another answer"),
+        _ => panic!(rt; "another result"),
     }
     // 1025 tags around 5
     match Tree::of(alloc, item_of(alloc, "5 1025*c:1").ok_or("no item")?) {
         Err((item, Reason::TooDeep)) => {
             assert!(rt; matches!(within_tags(&item, 1025), Some(Item::Unsigned(5))));
         }
-        _ => panic!(rt; "another answer"),
+        _ => panic!(rt; "another result"),
     }
     let tree = tree_of(alloc, "n:7")?;
     assert!(rt; matches!(tree.item(), Item::Negative(7)));

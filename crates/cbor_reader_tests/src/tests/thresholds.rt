@@ -228,7 +228,12 @@ fn turned_maps_of_each_size(rt: HostRuntime) -> Result<(), AllocError> {
 }
 
 // This number of letters and these bytes, as a text of this length.
-fn push_text(bytes: &mut Vec<u8>, size: u32, length: u32, following: &[u8]) -> Result<(), AllocError> {
+fn push_text(
+    bytes: &mut Vec<u8>,
+    size: u32,
+    length: u32,
+    following: &[u8],
+) -> Result<(), AllocError> {
     push_head(bytes, 0x60, length)?;
     push_times(bytes, b'a', size)?;
     bytes.extend_from_slice(following)
