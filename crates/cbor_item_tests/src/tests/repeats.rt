@@ -43,7 +43,8 @@ fn give_opened(
     builder.leaf(Major::Unsigned, 4)?;
     builder.begin(Major::Array, 0)?;
     open_map(builder, inner)?;
-    builder.leaf(Major::Unsigned, last)
+    builder.leaf(Major::Unsigned, last)?;
+    Ok(())
 }
 
 // What is reported of that, by `first_repeat` and when the inner map ends
