@@ -120,7 +120,7 @@ static void look_ups(void) {
     leads_nowhere(naltvigo_at_encoded(map, (const uint8_t *)"\x81", 1), NALTVIGO_NOT_THERE, "a part of a key");
     leads_nowhere(naltvigo_at_encoded(map, NULL, 0), NALTVIGO_NOT_THERE, "no bytes");
     leads_nowhere(naltvigo_at_int(naltvigo_at_int(map, 10), 2), NALTVIGO_WRONG_KIND, "a key of an array");
-    leads_nowhere(naltvigo_at_text(naltvigo_at_int(map, 2), "b"), NALTVIGO_NOT_THERE, "after what is not there");
+    leads_nowhere(naltvigo_at_text(naltvigo_at_int(map, 2), "b"), NALTVIGO_NOT_THERE, "after what is missing");
     leads_nowhere(naltvigo_at_text(naltvigo_at_text(map, "b"), "b"), NALTVIGO_NOT_THERE, "in an empty map");
 }
 

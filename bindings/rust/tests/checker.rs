@@ -239,7 +239,7 @@ fn a_complete_item_uses_nothing_more() {
     }
 }
 
-// An item that is not complete may go on after `end` said so.
+// An item that is not complete may continue after `end` said so.
 #[test]
 fn an_end_that_was_none() {
     let mut checker = Checker::new(&Options::default()).unwrap();
@@ -250,7 +250,7 @@ fn an_end_that_was_none() {
     assert_eq!(checker.end(), Ok(3));
 }
 
-// A checker may go on in another thread.
+// A checker may continue in another thread.
 #[test]
 fn threads() {
     fn is_shared<T: Send + Sync>() {}
