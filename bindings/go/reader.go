@@ -91,7 +91,7 @@ func (reader *Reader) front() ([]byte, bool) {
 func (reader *Reader) beginCut() (err error) {
 	switch {
 	case reader.cut != nil:
-		return ErrMemory // what took the bytes had none for a key
+		return ErrMemory // the check of these bytes had no memory for a key
 	case !reader.canonical:
 		reader.cut, err = newCutMachine(&reader.options)
 		return err

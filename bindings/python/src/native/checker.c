@@ -42,7 +42,7 @@ static int is_free(const struct checker *self) {
     return 0;
 }
 
-/* Gives the bytes to the library. It is not OK and not MORE only with an exception. */
+/* Passes the bytes to the library. If the status is neither OK nor MORE, an exception is set. */
 static uint32_t take(struct checker *self, const struct input *input) {
     struct naltvigo_refusal refusal;
     size_t used = 0;
