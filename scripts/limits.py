@@ -26,6 +26,7 @@ DECLARED = {
     "exponent of bytes in databases": ("bindings/sql/rules.h", "CBOR_BYTES = 1 << NUMBER }"),
     "first simple value that does not exist": ("crates/cbor_head/src/simple.rt", "    number < NUMBER ||"),
     "first simple value in two bytes": ("crates/cbor_head/src/simple.rt", "pub const FIRST_SIMPLE_IN_TWO_BYTES: u64 = NUMBER;"),
+    "bytes in the page": ("web/index.html", 'id="bytes" type="number" min="0" max="NUMBER"'),
 }
 
 STATED = {
@@ -61,6 +62,14 @@ STATED = {
         ("docs/CONTRACTS.md", "`MAX_DEPTH` (NUMBER)"),
         ("docs/CONTRACTS.md", "(depth ≤ NUMBER) ×"),
         ("docs/PERFORMANCE.md", "of stack at depth NUMBER"),
+        ("crates/cbor_parser/src/lib.rt", "grows from 16 to NUMBER entries"),
+        ("crates/cbor_parser/specs/inner/Rules.antt", "CellsFitInMemory K = NUMBER * size"),
+        ("bindings/rust/README.md", "options.with_depth(NUMBER).expect("),
+        ("bindings/rust/README.md", 'expect("at most NUMBER levels")'),
+        ("bindings/rust/README.md", ".depth(), NUMBER);"),
+        ("bindings/rust/src/options.rs", "options.with_depth(NUMBER).unwrap().with_order"),
+        ("bindings/rust/src/options.rs", "deeper.bytes()), (NUMBER, "),
+        ("scripts/test_c.sh", "'s/MAX UINT32_C(NUMBER)/MAX"),
     ],
     "greatest exponent of bytes": [
         ("include/naltvigo.h", "#define NALTVIGO_BYTES_MAX (UINT64_C(1) << NUMBER)"),
@@ -109,6 +118,9 @@ STATED = {
         ("bindings/rust/src/options.rs", "any kind, NUMBER levels,"),
         ("bindings/go/README.md", "keys of any kind, NUMBER levels,"),
         ("bindings/rust/README.md", "keys of any kind, NUMBER levels,"),
+        ("bindings/js/README.md", "`depth` (NUMBER by\ndefault)"),
+        ("bindings/python/README.md", "arguments `depth=NUMBER` and"),
+        ("docs/SIGNING.md", "| C, Python, Rust, JavaScript, Go | NUMBER | 2^"),
     ],
     "default exponent of bytes": [
         ("include/naltvigo.h", "may have; default 2^NUMBER */"),
@@ -131,6 +143,10 @@ STATED = {
         ("bindings/rust/src/options.rs", "OTHER levels, 2^NUMBER bytes"),
         ("bindings/go/README.md", "levels, 2^NUMBER bytes"),
         ("bindings/rust/README.md", "levels, 2^NUMBER bytes"),
+        ("bindings/js/README.md", "`maxBytes` (2 ** NUMBER)"),
+        ("bindings/python/README.md", "`max_bytes=1 << NUMBER`, and"),
+        ("docs/SIGNING.md", "| C, Python, Rust, JavaScript, Go | OTHER | 2^NUMBER |"),
+        ("docs/SIGNING.md", "| `cborc` | OTHER | 2^NUMBER |"),
     ],
     "default depth of the program": [
         ("share/cborc.1", "The default is NUMBER; that of the library"),
@@ -139,6 +155,7 @@ STATED = {
         ("docs/DECISIONS.md", "It is NUMBER in the program"),
         ("README.md", "default of `cborc` is NUMBER levels"),
         ("web/index.html", 'id="depth" type="number" min="0" max="OTHER" value="NUMBER"'),
+        ("docs/SIGNING.md", "| `cborc` | NUMBER | 2^"),
     ],
     "depth in databases": [
         ("bindings/sqlite/README.md", "may have at most NUMBER levels"),
@@ -162,6 +179,10 @@ STATED = {
         ("include/naltvigo_writer.h", "The numbers NUMBER to 31 do not exist"),
         ("bindings/rust/src/value.rs", "if number < NUMBER ||"),
         ("bindings/rust/src/value.rs", "None for NUMBER to 31, which"),
+        ("bindings/rust/src/builder.rs", "no simple value is NUMBER to 31"),
+        ("bindings/rust/src/item.rs", "no simple value is NUMBER to 31"),
+        ("bindings/python/src/native/native.h", "Python has, and NUMBER to 31"),
+        ("bindings/go/value.go", "a Simple is NUMBER to 31"),
     ],
     "first simple value in two bytes": [
         ("crates/cbor_head/src/simple.rt", "from 0 to 23 or from NUMBER to 255"),
@@ -185,6 +206,14 @@ STATED = {
         ("bindings/go/value.go", "0 to 23 or NUMBER to 255."),
         ("docs/C.md", "from 0 to 23 or NUMBER to 255."),
         ("docs/TRUST.md", "0 to 23 and NUMBER to 255."),
+        ("docs/TRUST.md", "by a number below NUMBER is refused"),
+        ("docs/DECISIONS.md", "0 to 23 or NUMBER to 255."),
+        ("crates/cbor_head/src/reason.rt", "A simple value below NUMBER in a second byte"),
+        ("crates/cbor_head/src/head.rt", "a simple value below NUMBER in a second"),
+        ("crates/cbor_builder/src/canon_builder.rt", "0 to 23 or NUMBER to 255."),
+    ],
+    "bytes in the page": [
+        ("web/src/main.js", "the bytes 0 to NUMBER."),
     ],
 }
 
