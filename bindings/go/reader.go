@@ -143,7 +143,7 @@ type cutItem interface {
 type cutChecker struct{ *Checker }
 
 func (cut cutChecker) isCut(item []byte) bool {
-	_, err := cut.Take(item[cut.Consumed():])
+	_, err := cut.Feed(item[cut.Consumed():])
 	return err == nil && !cut.Complete()
 }
 
@@ -165,7 +165,7 @@ func (cut *cutMachine) isCut(item []byte) bool {
 		var used, reported C.size_t
 		var why C.struct_naltvigo_refusal
 		rest := item[cut.used:]
-		status := C.naltvigo_machine_take(&cut.machine, first(rest), C.size_t(len(rest)), &used, &cut.events[0], C.size_t(len(cut.events)), &reported, &why)
+		status := C.naltvigo_machine_feed(&cut.machine, first(rest), C.size_t(len(rest)), &used, &cut.events[0], C.size_t(len(cut.events)), &reported, &why)
 		cut.used += int(used)
 		if status != C.NALTVIGO_EVENT {
 			return status == C.NALTVIGO_MORE

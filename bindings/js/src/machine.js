@@ -38,7 +38,7 @@ export class Machine {
         const instance = this.library.instance(), { exports, first, second, refusal } = instance;
         const input = instance.left.put(part), machine = instance.right.put(this.state), space = part.length + 1;
         const { pointer, offset } = instance.output.atLeast(space * EVENT_SIZE);
-        this.status = instance.run(() => exports.naltvigo_machine_take_raw(
+        this.status = instance.run(() => exports.naltvigo_machine_feed_raw(
             machine.pointer, input.pointer, input.size, first, pointer, BigInt(space), second, refusal));
         this.state.set(instance.bytes().subarray(instance.right.offset, instance.right.offset + MACHINE_SIZE));
         const used = instance.firstResult(), count = instance.secondResult();

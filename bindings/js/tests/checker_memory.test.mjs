@@ -165,12 +165,12 @@ test('checkers continue when other calls do not return, and after freeMemory', a
 
 const TRAP = new WebAssembly.RuntimeError('unreachable');
 
-/** A library whose first instance traps where `trapped.take` says so, and fails if a checker is called there after `trap`. */
+/** A library whose first instance traps where `trapped.feed` says so, and fails if a checker is called there after `trap`. */
 async function trapping() {
-    const { module, instance } = await WebAssembly.instantiate(wasm, {}), trapped = { take: false, isAtEnd: false };
+    const { module, instance } = await WebAssembly.instantiate(wasm, {}), trapped = { feed: false, isAtEnd: false };
     const exports = Object.fromEntries(Object.entries(instance.exports).map(([name, value]) => [name, !name.includes('checker') ? value : (...given) => {
         assert.ok(!trapped.isAtEnd, `${name} is called in an instance that trapped`);
-        if (trapped.take && name.includes('take')) throw TRAP;
+        if (trapped.feed && name.includes('feed')) throw TRAP;
         return value(...given);
     }]));
     const library = new Library(module, { exports });
@@ -217,9 +217,9 @@ test('a checker whose own call trapped says so until restart, and others continu
     const { Checker, trapped } = await trapping(), own = new Checker(), other = new Checker();
     own.feed(bytes('82'));
     other.feed(bytes('83'));
-    trapped.take = true;
+    trapped.feed = true;
     assert.throws(() => own.feed(bytes('00')), TRAP);
-    trapped.take = false;
+    trapped.feed = false;
     for (const call of [() => own.feed(bytes('00')), () => own.end()]) {
         assert.throws(call, { message: 'naltvigo: the checker is lost, since a call of it did not return' });
     }
