@@ -116,7 +116,7 @@ put(FunctionCallInfo fcinfo, StringInfo out, Datum datum, Oid type)
 				ereport(ERROR,
 						(errcode(ERRCODE_DATATYPE_MISMATCH),
 						 errmsg("no item is made of a value of type %s", format_type_be(type)),
-						 type == BYTEAOID ? errhint("Give it as cbor_item(item) or as cbor_byte_string(bytes).")
+						 type == BYTEAOID ? errhint("Pass it as cbor_item(item) or as cbor_byte_string(bytes).")
 						 : errhint("Cast it to bigint, text or boolean.")));
 	}
 }
