@@ -112,7 +112,8 @@ export class Refused extends Error {
 /**
  * Checks an item whose bytes arrive in parts. After each part the result is that of `checkCanonical` for all bytes of the item
  * so far, except that `Truncated` is not thrown before `end`. It does not matter where the item is cut into parts. So a wrong
- * byte is refused when it arrives. A checker stores only the last key of each open map, and all of a key that is not complete.
+ * byte is refused when it arrives. A checker stores the last key of each open map and all of a key that is not complete, but no
+ * other byte of the item. It also needs 10.3 KiB at any depth, and 24 bytes for each open map.
  *
  * It uses memory of the module from the first call of `feed` or `end` until the item is complete or refused, until `free`, or
  * until it is collected as garbage.
