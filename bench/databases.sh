@@ -1,7 +1,7 @@
 #!/usr/bin/env bash
 # Prints the times of the extensions for SQLite and PostgreSQL next to those of JSON, as Markdown tables: bench/databases.sh [DIST]
 #
-# DIST has the library for C, as scripts/build_c.sh makes it (dist without one). The server is the script's own, as in
+# DIST has the library for C, as scripts/build_c.sh makes it (default: dist). The server is the script's own, as in
 # scripts/test_databases.sh. A database that is not installed is left out, with a line on standard error.
 set -euo pipefail
 . "$(dirname "${BASH_SOURCE[0]}")/../scripts/lib/options.sh"

@@ -1,5 +1,5 @@
 #!/usr/bin/env python3
-"""Lists the functions marked #[inline(always)] that a program has as functions nevertheless, the largest first.
+"""Lists the functions marked #[inline(always)] that are still functions of a program, the largest first.
 
     python3 inlined.py PROGRAM
 

@@ -90,7 +90,7 @@ static int events_by(size_t part, size_t space) {
     naltvigo_machine_start(LIMITS(256, NALTVIGO_BYTES_MAX), &machine);
     do {
         size_t offered = in.length - at < part ? in.length - at : part;
-        s = naltvigo_machine_take(&machine, in.at + at, offered, &used, events, space, &reported, &why);
+        s = naltvigo_machine_feed(&machine, in.at + at, offered, &used, events, space, &reported, &why);
         at += used;
     } while (s == NALTVIGO_EVENT || (s == NALTVIGO_MORE && at < in.length));
     return s == NALTVIGO_OK && at == in.length;
@@ -102,7 +102,7 @@ static int checked_by(size_t part) {
     uint32_t s = naltvigo_checker_new(OPTIONS(0, 256, NALTVIGO_BYTES_MAX), &checker);
     while (s == NALTVIGO_OK || s == NALTVIGO_MORE) {
         size_t offered = canonical.length - at < part ? canonical.length - at : part;
-        s = naltvigo_checker_take(&checker, canonical.at + at, offered, &used, &why);
+        s = naltvigo_checker_feed(&checker, canonical.at + at, offered, &used, &why);
         at += used;
         if (s == NALTVIGO_OK || offered == 0) break;
     }
@@ -281,7 +281,7 @@ int main(int count, char **words) {
         puts("");
         give_up_document();
     }
-    puts("\n| events by `naltvigo_machine_take`, MB/s | bytes | 64 events a call | 1 event a call |");
+    puts("\n| events by `naltvigo_machine_feed`, MB/s | bytes | 64 events a call | 1 event a call |");
     puts("| --- | ---: | ---: | ---: |");
     for (int i = 2; i < count; i++) {
         in = slurp(words[1], words[i], "cbor");

@@ -19,7 +19,7 @@ MEMBERS = 16
 
 
 def count(library, call, place, members=0):
-    """The instructions of a call on an item, or on an array of this many of it."""
+    """The instructions of a call on an item, or on an array of this many such items."""
     words = ["--calls", call, str(place), str(members)]
     none, some = (instructions(library, *words, str(times)) for times in (0, TIMES))
     return (some - none) / TIMES

@@ -9,7 +9,7 @@ static uint32_t status;
 
 /* The last claim first. */
 static struct naltvigo_writer put(void) {
-    struct naltvigo_writer claims = naltvigo_write_to(items, sizeof items);
+    struct naltvigo_writer claims = naltvigo_writer_to(items, sizeof items);
     naltvigo_put_map(&claims);
     naltvigo_put_int(&claims, 7), naltvigo_put_bytes(&claims, "\x0b\x71", 2);
     naltvigo_put_int(&claims, 6), naltvigo_put_uint(&claims, 1443944944);

@@ -1,7 +1,7 @@
 #!/usr/bin/env bash
 # Compares the speed of the package for JavaScript with that of the library for C, as a Markdown table: bench/web.sh [DIST]
 #
-# DIST is as scripts/build_c.sh makes it (dist without one), the modules are in bindings/js/wasm. Each engine that is installed
+# DIST is as scripts/build_c.sh makes it (default: dist), the modules are in bindings/js/wasm. Each engine that is installed
 # runs alone, one after another: Node, also with 64-bit memory, Chromium and Firefox (Debian's chromium, firefox-esr).
 set -euo pipefail
 

@@ -32,7 +32,7 @@ static int takes(struct naltvigo_checker *checker, const struct row *row, uint32
     /* a block of exactly these bytes, so that a tool sees any access outside it */
     uint8_t *part = (uint8_t *)room_for(to - from);
     if (to > from) memcpy(part, in + from, to - from);
-    check(naltvigo_checker_take(checker, to > from ? part : NULL, to - from, &used, &why) == status, "status", row->given);
+    check(naltvigo_checker_feed(checker, to > from ? part : NULL, to - from, &used, &why) == status, "status", row->given);
     free(part);
     check(are_equal(why, wanted), "refusal", row->given);
     check(from + used == (length > from ? length : from), "used", row->given);
@@ -50,7 +50,7 @@ static void ends(struct naltvigo_checker *checker, const struct row *row, uint32
     status = wanted.reason ? NALTVIGO_REFUSED : NALTVIGO_OK;
     check(naltvigo_checker_end(checker, &why) == status && are_equal(why, wanted), "end", row->given);
     if (wanted.reason == NALTVIGO_TRUNCATED) return;
-    check(naltvigo_checker_take(checker, (const uint8_t *)"\xff", 1, &used, &again) == status && used == 0, "again", row->given);
+    check(naltvigo_checker_feed(checker, (const uint8_t *)"\xff", 1, &used, &again) == status && used == 0, "again", row->given);
     check(are_equal(again, wanted), "the same refusal", row->given);
 }
 
@@ -109,7 +109,7 @@ static void long_keys(size_t part) {
         in[last] = is_less ? 'a' : 'b';
         check(naltvigo_checker_new(OPTIONS(0, 4, 1 << 24), &checker) == NALTVIGO_OK, "new", "long keys");
         for (at = 0; at < n && status == NALTVIGO_MORE; at += used)
-            status = naltvigo_checker_take(&checker, in + at, n - at < part ? n - at : part, &used, &why);
+            status = naltvigo_checker_feed(&checker, in + at, n - at < part ? n - at : part, &used, &why);
         if (is_less)
             check(status == NALTVIGO_REFUSED && why.reason == NALTVIGO_KEY_ORDER && why.offset == 1 + 5 + key + 1
                       && why.consumed == last + 1 && at == last + 1, "refused", "long keys");
@@ -128,12 +128,12 @@ static void deep(uint8_t first, uint8_t second, size_t levels, uint32_t wanted) 
     size_t used, i;
     check(naltvigo_checker_new(OPTIONS(0, 1024, 1 << 20), &checker) == NALTVIGO_OK, "new", "deep");
     for (i = 0; i < levels && status == NALTVIGO_MORE; i++) {
-        status = naltvigo_checker_take(&checker, &first, 1, &used, &why);
-        if (second != 0xff && status == NALTVIGO_MORE) status = naltvigo_checker_take(&checker, &second, 1, &used, &why);
+        status = naltvigo_checker_feed(&checker, &first, 1, &used, &why);
+        if (second != 0xff && status == NALTVIGO_MORE) status = naltvigo_checker_feed(&checker, &second, 1, &used, &why);
     }
     /* a leaf, and as many values as keys are open */
     for (i = 0; i < (second == 0xff ? levels + 1 : 1) && status == NALTVIGO_MORE; i++)
-        status = naltvigo_checker_take(&checker, (const uint8_t *)"", 1, &used, &why);
+        status = naltvigo_checker_feed(&checker, (const uint8_t *)"", 1, &used, &why);
     check(status == wanted && (wanted == NALTVIGO_OK || why.reason == NALTVIGO_TOO_DEEP), "deep", "1,024 levels");
     naltvigo_checker_free(&checker);
 }
@@ -148,16 +148,16 @@ static void handles(void) {
     check(naltvigo_checker_new(OPTIONS(2, 4, 8), &checker) == NALTVIGO_BAD_ORDER && !checker.memory, "order", "2");
     check(naltvigo_checker_new(OPTIONS(0, 1025, 8), &checker) == NALTVIGO_BAD_LIMITS && !checker.memory, "depth", "1025");
     check(naltvigo_checker_new(ALL_OPTIONS(0, 2, 4, 8), &checker) == NALTVIGO_BAD_LIMITS && !checker.memory, "keys", "2");
-    check(naltvigo_checker_take(&checker, NULL, 0, &used, &why) == NALTVIGO_BAD_MACHINE && used == 0, "take", "no machine");
+    check(naltvigo_checker_feed(&checker, NULL, 0, &used, &why) == NALTVIGO_BAD_MACHINE && used == 0, "feed", "no machine");
     check(naltvigo_checker_end(&checker, &why) == NALTVIGO_BAD_MACHINE, "end", "no machine");
     check(naltvigo_checker_restart(0, &checker) == NALTVIGO_BAD_MACHINE && are_equal(why, unset), "restart", "no machine");
     naltvigo_checker_free(&checker);
     check(naltvigo_checker_new(NULL, &checker) == NALTVIGO_OK && checker.memory, "new", "defaults");
     check(naltvigo_checker_restart(2, &checker) == NALTVIGO_BAD_ORDER, "restart", "order 2");
-    check(naltvigo_checker_take(&checker, (const uint8_t *)"\xf9", 1, &used, NULL) == NALTVIGO_REFUSED && used == 1, "null", "take");
+    check(naltvigo_checker_feed(&checker, (const uint8_t *)"\xf9", 1, &used, NULL) == NALTVIGO_REFUSED && used == 1, "null", "feed");
     check(naltvigo_checker_end(&checker, NULL) == NALTVIGO_REFUSED, "null", "end");
     check(naltvigo_checker_restart(1, &checker) == NALTVIGO_OK, "restart", "after a refusal");
-    check(naltvigo_checker_take(&checker, (const uint8_t *)"", 1, &used, NULL) == NALTVIGO_OK && used == 1, "taken", "00");
+    check(naltvigo_checker_feed(&checker, (const uint8_t *)"", 1, &used, NULL) == NALTVIGO_OK && used == 1, "taken", "00");
     naltvigo_checker_free(&checker);
     check(!checker.memory, "free", "no machine is left");
     naltvigo_checker_free(&checker);

@@ -21,7 +21,7 @@ static struct naltvigo_cursor open_hex(const char *hex) {
 
 enum { GETTERS = 10 };
 
-/* The status of each getter on an item, in a row of letters: o OK, k WRONG_KIND, r OUT_OF_RANGE, t NOT_THERE, d DIFFERENT.
+/* The status of each getter on an item, in a row of letters: o OK, k WRONG_KIND, r OUT_OF_RANGE, t NOT_FOUND, d DIFFERENT.
  * If it is not OK, the result is 0 or empty. */
 static void get_all(struct naltvigo_cursor at, uint32_t before, char *row) {
     uint32_t s[GETTERS];
@@ -41,7 +41,7 @@ static void get_all(struct naltvigo_cursor at, uint32_t before, char *row) {
     text = naltvigo_get_text(at, &length[1], &s[8]);
     encoded = naltvigo_get_encoded(at, &length[2], &s[9]);
     for (i = 0; i < GETTERS; i++)
-        row[i] = s[i] == NALTVIGO_OK ? 'o' : s[i] == NALTVIGO_WRONG_KIND ? 'k' : s[i] == NALTVIGO_OUT_OF_RANGE ? 'r' : s[i] == NALTVIGO_NOT_THERE ? 't' : 'd';
+        row[i] = s[i] == NALTVIGO_OK ? 'o' : s[i] == NALTVIGO_WRONG_KIND ? 'k' : s[i] == NALTVIGO_OUT_OF_RANGE ? 'r' : s[i] == NALTVIGO_NOT_FOUND ? 't' : 'd';
     row[GETTERS] = 0;
     for (i = 0; i < 7; i++) check(s[i] == NALTVIGO_OK || numbers[i] == 0, "no number", row);
     for (i = 0; i < 3; i++) check(s[7 + i] == NALTVIGO_OK || length[i] == 0, "no length", row);
@@ -106,22 +106,22 @@ static void look_ups(void) {
     leads_to(naltvigo_at_uint(map, 10), 5, "10");
     leads_to(naltvigo_at_int(map, -1), 9, "-1");
     leads_to(naltvigo_at_text(map, "b"), 12, "b");
-    leads_to(naltvigo_at_text_of(map, "bcd", 1), 12, "b of bcd");
+    leads_to(naltvigo_at_text_n(map, "bcd", 1), 12, "b of bcd");
     leads_to(naltvigo_at_encoded(map, (const uint8_t *)"\x81", 2), 15, "[0]");
     leads_to(naltvigo_at_encoded(map, (const uint8_t *)"\xf4", 1), 18, "false");
-    leads_nowhere(naltvigo_at_int(map, 0), NALTVIGO_NOT_THERE, "0");
-    leads_nowhere(naltvigo_at_int(map, 2), NALTVIGO_NOT_THERE, "2, which is in a value");
-    leads_nowhere(naltvigo_at_int(map, INT64_MIN), NALTVIGO_NOT_THERE, "INT64_MIN");
-    leads_nowhere(naltvigo_at_uint(map, UINT64_MAX), NALTVIGO_NOT_THERE, "UINT64_MAX");
-    leads_nowhere(naltvigo_at_text(map, "a"), NALTVIGO_NOT_THERE, "a, which is a value");
-    leads_nowhere(naltvigo_at_text(map, ""), NALTVIGO_NOT_THERE, "the empty text");
-    leads_nowhere(naltvigo_at_text(map, "bb"), NALTVIGO_NOT_THERE, "bb");
-    leads_nowhere(naltvigo_at_encoded(map, (const uint8_t *)"\xf5", 1), NALTVIGO_NOT_THERE, "true, which is a value");
-    leads_nowhere(naltvigo_at_encoded(map, (const uint8_t *)"\x81", 1), NALTVIGO_NOT_THERE, "a part of a key");
-    leads_nowhere(naltvigo_at_encoded(map, NULL, 0), NALTVIGO_NOT_THERE, "no bytes");
+    leads_nowhere(naltvigo_at_int(map, 0), NALTVIGO_NOT_FOUND, "0");
+    leads_nowhere(naltvigo_at_int(map, 2), NALTVIGO_NOT_FOUND, "2, which is in a value");
+    leads_nowhere(naltvigo_at_int(map, INT64_MIN), NALTVIGO_NOT_FOUND, "INT64_MIN");
+    leads_nowhere(naltvigo_at_uint(map, UINT64_MAX), NALTVIGO_NOT_FOUND, "UINT64_MAX");
+    leads_nowhere(naltvigo_at_text(map, "a"), NALTVIGO_NOT_FOUND, "a, which is a value");
+    leads_nowhere(naltvigo_at_text(map, ""), NALTVIGO_NOT_FOUND, "the empty text");
+    leads_nowhere(naltvigo_at_text(map, "bb"), NALTVIGO_NOT_FOUND, "bb");
+    leads_nowhere(naltvigo_at_encoded(map, (const uint8_t *)"\xf5", 1), NALTVIGO_NOT_FOUND, "true, which is a value");
+    leads_nowhere(naltvigo_at_encoded(map, (const uint8_t *)"\x81", 1), NALTVIGO_NOT_FOUND, "a part of a key");
+    leads_nowhere(naltvigo_at_encoded(map, NULL, 0), NALTVIGO_NOT_FOUND, "no bytes");
     leads_nowhere(naltvigo_at_int(naltvigo_at_int(map, 10), 2), NALTVIGO_WRONG_KIND, "a key of an array");
-    leads_nowhere(naltvigo_at_text(naltvigo_at_int(map, 2), "b"), NALTVIGO_NOT_THERE, "after what is not there");
-    leads_nowhere(naltvigo_at_text(naltvigo_at_text(map, "b"), "b"), NALTVIGO_NOT_THERE, "in an empty map");
+    leads_nowhere(naltvigo_at_text(naltvigo_at_int(map, 2), "b"), NALTVIGO_NOT_FOUND, "after what is missing");
+    leads_nowhere(naltvigo_at_text(naltvigo_at_text(map, "b"), "b"), NALTVIGO_NOT_FOUND, "in an empty map");
 }
 
 /* {1: {2: 3}, 4: [5, 6]}: nothing leads out of an inner map or array. */
@@ -129,30 +129,30 @@ static void inner_ones(void) {
     const struct naltvigo_cursor map = open_hex("a201a102030482" "0506");
     const struct naltvigo_cursor value = naltvigo_at_int(naltvigo_at_int(map, 1), 2);
     leads_to(value, 4, "a value within a value");
-    leads_nowhere(naltvigo_next(value), NALTVIGO_NOT_THERE, "after the inner map");
-    leads_nowhere(naltvigo_at_int(naltvigo_at_int(map, 1), 4), NALTVIGO_NOT_THERE, "a key of the outer map");
-    leads_nowhere(naltvigo_next(naltvigo_at_index(naltvigo_at_int(map, 4), 1)), NALTVIGO_NOT_THERE, "after the inner array");
+    leads_nowhere(naltvigo_next(value), NALTVIGO_NOT_FOUND, "after the inner map");
+    leads_nowhere(naltvigo_at_int(naltvigo_at_int(map, 1), 4), NALTVIGO_NOT_FOUND, "a key of the outer map");
+    leads_nowhere(naltvigo_next(naltvigo_at_index(naltvigo_at_int(map, 4), 1)), NALTVIGO_NOT_FOUND, "after the inner array");
     leads_to(naltvigo_next(naltvigo_at_int(map, 1)), 5, "the next key");
-    leads_nowhere(naltvigo_next(naltvigo_at_int(map, 4)), NALTVIGO_NOT_THERE, "after the last pair");
+    leads_nowhere(naltvigo_next(naltvigo_at_int(map, 4)), NALTVIGO_NOT_FOUND, "after the last pair");
 }
 
 static void members(void) {
     const struct naltvigo_cursor map = open_hex(mixed), array = naltvigo_at_int(map, 10);
     leads_to(naltvigo_first(array), 6, "first");
     leads_to(naltvigo_next(naltvigo_first(array)), 7, "next");
-    leads_nowhere(naltvigo_next(naltvigo_next(naltvigo_first(array))), NALTVIGO_NOT_THERE, "after the last member");
+    leads_nowhere(naltvigo_next(naltvigo_next(naltvigo_first(array))), NALTVIGO_NOT_FOUND, "after the last member");
     leads_to(naltvigo_at_index(array, 0), 6, "0");
     leads_to(naltvigo_at_index(array, 1), 7, "1");
-    leads_nowhere(naltvigo_at_index(array, 2), NALTVIGO_NOT_THERE, "2");
-    leads_nowhere(naltvigo_at_index(array, UINT64_MAX), NALTVIGO_NOT_THERE, "UINT64_MAX");
+    leads_nowhere(naltvigo_at_index(array, 2), NALTVIGO_NOT_FOUND, "2");
+    leads_nowhere(naltvigo_at_index(array, UINT64_MAX), NALTVIGO_NOT_FOUND, "UINT64_MAX");
     leads_nowhere(naltvigo_at_index(map, 0), NALTVIGO_WRONG_KIND, "an index of a map");
-    leads_nowhere(naltvigo_at_index(naltvigo_at_int(map, 3), 0), NALTVIGO_NOT_THERE, "an index of nothing");
+    leads_nowhere(naltvigo_at_index(naltvigo_at_int(map, 3), 0), NALTVIGO_NOT_FOUND, "an index of nothing");
     leads_nowhere(naltvigo_first(naltvigo_at_int(map, 1)), NALTVIGO_WRONG_KIND, "the first of a text");
-    leads_nowhere(naltvigo_first(naltvigo_at_text(map, "b")), NALTVIGO_NOT_THERE, "the first of an empty map");
-    leads_nowhere(naltvigo_first(naltvigo_at_int(map, 3)), NALTVIGO_NOT_THERE, "the first of nothing");
-    leads_nowhere(naltvigo_next(map), NALTVIGO_NOT_THERE, "after the whole item");
-    leads_nowhere(naltvigo_first(open_hex("80")), NALTVIGO_NOT_THERE, "the first of an empty array");
-    leads_nowhere(naltvigo_at_index(open_hex("80"), 0), NALTVIGO_NOT_THERE, "an index of an empty array");
+    leads_nowhere(naltvigo_first(naltvigo_at_text(map, "b")), NALTVIGO_NOT_FOUND, "the first of an empty map");
+    leads_nowhere(naltvigo_first(naltvigo_at_int(map, 3)), NALTVIGO_NOT_FOUND, "the first of nothing");
+    leads_nowhere(naltvigo_next(map), NALTVIGO_NOT_FOUND, "after the whole item");
+    leads_nowhere(naltvigo_first(open_hex("80")), NALTVIGO_NOT_FOUND, "the first of an empty array");
+    leads_nowhere(naltvigo_at_index(open_hex("80"), 0), NALTVIGO_NOT_FOUND, "an index of an empty array");
 }
 
 /* Keys and values in turn, from the first and from a value that was looked up. */
@@ -162,17 +162,17 @@ static void pairs(void) {
     struct naltvigo_cursor at = naltvigo_first(map);
     size_t i;
     for (i = 0; i < 12; i++, at = naltvigo_next(at)) leads_to(at, places[i], "pairs");
-    leads_nowhere(at, NALTVIGO_NOT_THERE, "after the last pair");
+    leads_nowhere(at, NALTVIGO_NOT_FOUND, "after the last pair");
     at = naltvigo_at_int(map, -1);
     for (i = 5; i < 12; i++, at = naltvigo_next(at)) leads_to(at, places[i], "pairs from one on");
-    leads_nowhere(at, NALTVIGO_NOT_THERE, "after the last pair");
+    leads_nowhere(at, NALTVIGO_NOT_FOUND, "after the last pair");
 }
 
 static void tags(void) {
     const struct naltvigo_cursor tag = naltvigo_at_encoded(open_hex(mixed), (const uint8_t *)"\x81", 2);
     leads_to(naltvigo_at_tag(tag, 7), 16, "the content");
     leads_to(naltvigo_first(tag), 16, "the content");
-    leads_nowhere(naltvigo_next(naltvigo_first(tag)), NALTVIGO_NOT_THERE, "after the content");
+    leads_nowhere(naltvigo_next(naltvigo_first(tag)), NALTVIGO_NOT_FOUND, "after the content");
     leads_nowhere(naltvigo_at_tag(tag, 6), NALTVIGO_WRONG_KIND, "another number");
     leads_nowhere(naltvigo_at_tag(naltvigo_at_tag(tag, 7), 7), NALTVIGO_WRONG_KIND, "no tag");
     leads_nowhere(naltvigo_at_tag(naltvigo_at_int(tag, 1), 7), NALTVIGO_WRONG_KIND, "a key of a tag");
@@ -187,24 +187,24 @@ static void long_texts(void) {
     size_t i, needed = 0;
     uint32_t status = NALTVIGO_OK;
     struct naltvigo_cursor map;
-    struct naltvigo_writer w = naltvigo_write_to(items, sizeof items);
+    struct naltvigo_writer w = naltvigo_writer_to(items, sizeof items);
     memset(key, 'k', sizeof key);
     naltvigo_put_map(&w);
     for (i = FROM; i < TO; i += 2) {
-        naltvigo_put_text_of(&w, key, i), naltvigo_put_uint(&w, i);
-        naltvigo_put_bytes(&w, key, i + 1), naltvigo_put_text_of(&w, key, i + 1);
+        naltvigo_put_text_n(&w, key, i), naltvigo_put_uint(&w, i);
+        naltvigo_put_bytes(&w, key, i + 1), naltvigo_put_text_n(&w, key, i + 1);
     }
     naltvigo_put_end(&w);
     check(naltvigo_finish(&w, NULL, out, sizeof out, &needed, NULL) == NALTVIGO_OK, "finish", "long texts");
     map = naltvigo_open(out, needed, NULL, NULL);
     for (i = FROM; i < TO; i += 2) {
-        check(naltvigo_get_uint(naltvigo_at_text_of(map, key, i), &status) == i && status == NALTVIGO_OK, "long", "there");
-        leads_nowhere(naltvigo_at_text_of(map, key, i + 1), NALTVIGO_NOT_THERE, "a byte string, and a value");
+        check(naltvigo_get_uint(naltvigo_at_text_n(map, key, i), &status) == i && status == NALTVIGO_OK, "long", "there");
+        leads_nowhere(naltvigo_at_text_n(map, key, i + 1), NALTVIGO_NOT_FOUND, "a byte string, and a value");
         key[i - 1] = 'l';
-        leads_nowhere(naltvigo_at_text_of(map, key, i), NALTVIGO_NOT_THERE, "another last byte");
+        leads_nowhere(naltvigo_at_text_n(map, key, i), NALTVIGO_NOT_FOUND, "another last byte");
         key[i - 1] = 'k';
-        leads_nowhere(naltvigo_at_text_of(naltvigo_first(map), key, i), NALTVIGO_WRONG_KIND, "a key of a string");
-        leads_nowhere(naltvigo_at_text_of(naltvigo_next(map), key, i), NALTVIGO_NOT_THERE, "a key of nothing");
+        leads_nowhere(naltvigo_at_text_n(naltvigo_first(map), key, i), NALTVIGO_WRONG_KIND, "a key of a string");
+        leads_nowhere(naltvigo_at_text_n(naltvigo_next(map), key, i), NALTVIGO_NOT_FOUND, "a key of nothing");
     }
 }
 
@@ -214,12 +214,12 @@ static void long_text_in_an_array(void) {
     char key[65];
     size_t needed = 0;
     struct naltvigo_cursor array;
-    struct naltvigo_writer w = naltvigo_write_to(items, sizeof items);
+    struct naltvigo_writer w = naltvigo_writer_to(items, sizeof items);
     memset(key, 'k', sizeof key);
-    naltvigo_put_array_of(&w, 2), naltvigo_put_text_of(&w, key, sizeof key), naltvigo_put_int(&w, 1);
+    naltvigo_put_array_n(&w, 2), naltvigo_put_text_n(&w, key, sizeof key), naltvigo_put_int(&w, 1);
     check(naltvigo_finish(&w, NULL, out, sizeof out, &needed, NULL) == NALTVIGO_OK, "finish", "a long text");
     array = naltvigo_open(out, needed, NULL, NULL);
-    leads_nowhere(naltvigo_at_text_of(array, key, sizeof key), NALTVIGO_WRONG_KIND, "a long key of an array");
+    leads_nowhere(naltvigo_at_text_n(array, key, sizeof key), NALTVIGO_WRONG_KIND, "a long key of an array");
 }
 
 /* ---- Opening, and one status for all */
@@ -249,7 +249,7 @@ static void each_call_on_each_status(void) {
     const struct naltvigo_cursor map = open_hex(mixed), without[] = {
         naltvigo_open((const uint8_t *)"\x18", 2, NULL, NULL), naltvigo_at_index(map, 0), naltvigo_at_int(map, 3),
     };
-    static const uint32_t wanted[] = {NALTVIGO_REFUSED, NALTVIGO_WRONG_KIND, NALTVIGO_NOT_THERE};
+    static const uint32_t wanted[] = {NALTVIGO_REFUSED, NALTVIGO_WRONG_KIND, NALTVIGO_NOT_FOUND};
     char key[65];
     memset(key, 'k', sizeof key);
     for (size_t i = 0; i < 3; i++) {
@@ -262,7 +262,7 @@ static void each_call_on_each_status(void) {
         leads_nowhere(naltvigo_at_uint(at, 1), wanted[i], "at_uint");
         leads_nowhere(naltvigo_at_int(at, 1), wanted[i], "at_int");
         leads_nowhere(naltvigo_at_text(at, "b"), wanted[i], "at_text");
-        leads_nowhere(naltvigo_at_text_of(at, key, sizeof key), wanted[i], "at_text_of, a long key");
+        leads_nowhere(naltvigo_at_text_n(at, key, sizeof key), wanted[i], "at_text_n, a long key");
         leads_nowhere(naltvigo_at_tag(at, 7), wanted[i], "at_tag");
     }
 }

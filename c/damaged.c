@@ -49,7 +49,7 @@ static void look_up(struct naltvigo_cursor at) {
     is_within(naltvigo_at_int(at, -1), "at_int");
     is_within(naltvigo_at_uint(at, UINT64_MAX), "at_uint");
     is_within(naltvigo_at_text(at, "a"), "at_text");
-    is_within(naltvigo_at_text_of(at, long_key, sizeof long_key), "at_text_of");
+    is_within(naltvigo_at_text_n(at, long_key, sizeof long_key), "at_text_n");
     is_within(naltvigo_at_encoded(at, (const uint8_t *)"\x81", 2), "at_encoded");
     is_within(naltvigo_at_encoded(at, NULL, 0), "at_encoded");
     is_within(naltvigo_at_index(at, 1), "at_index");
@@ -78,7 +78,7 @@ static void keeps_its_neighbours(const uint8_t *bytes, size_t length) {
     size_t needed = 0;
     uint32_t status = NALTVIGO_OK;
     struct naltvigo_cursor array;
-    struct naltvigo_writer writer = naltvigo_write_to(items, sizeof items);
+    struct naltvigo_writer writer = naltvigo_writer_to(items, sizeof items);
     naltvigo_put_array(&writer), naltvigo_put_uint(&writer, 1111);
     naltvigo_put_encoded(&writer, bytes, length);
     naltvigo_put_uint(&writer, 2222), naltvigo_put_end(&writer);
@@ -92,7 +92,7 @@ static void keeps_its_neighbours(const uint8_t *bytes, size_t length) {
 /* Visits the items of an input from its first item as it is now, and from what a cursor found before the change. */
 static void try_input(const uint8_t *bytes, size_t length, const struct naltvigo_cursor *before) {
     const struct naltvigo_cursor now = naltvigo_cursor_at(bytes, length, 0);
-    struct naltvigo_writer writer = naltvigo_write_to(NULL, 0);
+    struct naltvigo_writer writer = naltvigo_writer_to(NULL, 0);
     in = bytes, in_length = length, inputs++;
     still_canonical += naltvigo_open(bytes, length, NULL, NULL).status == NALTVIGO_OK;
     visited = 0;
@@ -125,7 +125,7 @@ static void cut_at_each_place(const uint8_t *item, size_t n) {
         uint8_t *bytes = room_for(length);
         memcpy(bytes, item, length);
         try_input(bytes, length, NULL);
-        check(naltvigo_cursor_at(bytes, length, 0).status == NALTVIGO_NOT_THERE, "cut", "no item");
+        check(naltvigo_cursor_at(bytes, length, 0).status == NALTVIGO_NOT_FOUND, "cut", "no item");
         free(bytes);
     }
 }
@@ -133,7 +133,7 @@ static void cut_at_each_place(const uint8_t *item, size_t n) {
 static void change_at_random(void) {
     uint8_t items[4096], out[4096], *bytes;
     size_t length = 0, n;
-    struct naltvigo_writer w = naltvigo_write_to(items, sizeof items);
+    struct naltvigo_writer w = naltvigo_writer_to(items, sizeof items);
     struct naltvigo_cursor before;
     put_sample(&w, 4);
     if (naltvigo_finish(&w, NULL, out, sizeof out, &length, NULL) != NALTVIGO_OK) return;

@@ -30,7 +30,7 @@ static void finds_amount(void) {
     struct naltvigo_item value = {0, 0, 0, 0, 0, 0};
     check(find_amount(map, sizeof map, &value) == NALTVIGO_OK, "find_amount", "status");
     check(value.kind == 1 && value.number == 1 && value.offset == 5 && value.end == 6, "find_amount", "value");
-    check(find_amount((const uint8_t *)"\xa0", 1, &value) == NALTVIGO_NOT_THERE, "find_amount", "no such key");
+    check(find_amount((const uint8_t *)"\xa0", 1, &value) == NALTVIGO_NOT_FOUND, "find_amount", "no such key");
     check(find_amount((const uint8_t *)"\x80", 1, &value) == NALTVIGO_WRONG_KIND, "find_amount", "no map");
     check(find_amount(map, 5, &value) == NALTVIGO_REFUSED, "find_amount", "cut off");
 }
@@ -96,7 +96,7 @@ int main(void) {
     reads(encoded, 1000, 1, NALTVIGO_OK);
     reads(scaled, 3, 2, NALTVIGO_OK);
     reads(wrong, 0, 1, NALTVIGO_WRONG_KIND);
-    reads("a0", 0, 1, NALTVIGO_NOT_THERE);
+    reads("a0", 0, 1, NALTVIGO_NOT_FOUND);
     reads("1800", 0, 0, NALTVIGO_REFUSED);
     check(check_message((const uint8_t *)"\xa2\x20\0\x18\x64", 6) == NALTVIGO_OK, "check_message", "length first");
     check(check_message((const uint8_t *)"\xa1\x40", 3) == NALTVIGO_REFUSED, "check_message", "a byte string as key");

@@ -140,8 +140,8 @@ static void items_at_offsets(void) {
     check(naltvigo_item_at_raw(nested, 6, 3, &item) == NALTVIGO_OK && is(&item, 5, 1, 3, 4, 6, 0), "item_at", "the map");
     check(naltvigo_find_raw(nested, 6, 3, key, 1, &item) == NALTVIGO_OK && is(&item, 7, 21, 5, 6, 6, 0), "find", "0");
     item = no_item;
-    check(naltvigo_item_at_raw(nested, 6, 6, &item) == NALTVIGO_NOT_THERE, "item_at", "the end");
-    check(naltvigo_find_raw(nested, 6, 3, key + 1, 1, &item) == NALTVIGO_NOT_THERE, "find", "1");
+    check(naltvigo_item_at_raw(nested, 6, 6, &item) == NALTVIGO_NOT_FOUND, "item_at", "the end");
+    check(naltvigo_find_raw(nested, 6, 3, key + 1, 1, &item) == NALTVIGO_NOT_FOUND, "find", "1");
     check(naltvigo_find_raw(nested, 6, 0, key, 1, &item) == NALTVIGO_WRONG_KIND, "find", "in the array");
     check(is(&item, 0, 0, 0, 0, 0, 9), "item_at", "unchanged");
 }
@@ -160,8 +160,8 @@ static void parts_of_items(void) {
     s = naltvigo_writer_end_raw(out, 8, &needed, s);
     check(s == NALTVIGO_TOO_SMALL && needed == 13 && holds(out, "\x9f\x39\x01\xf3\x62\x61\x62\x07", 8), "writer", "no space");
     s = naltvigo_writer_encoded_raw(array, 1, out, 8, &needed, s);
-    check(s == NALTVIGO_NOT_THERE && needed == 13, "writer", "no item");
-    check(naltvigo_writer_head_raw(7, 24, out, 8, &needed, s) == NALTVIGO_NOT_THERE && needed == 13, "writer", "the first failure");
+    check(s == NALTVIGO_NOT_FOUND && needed == 13, "writer", "no item");
+    check(naltvigo_writer_head_raw(7, 24, out, 8, &needed, s) == NALTVIGO_NOT_FOUND && needed == 13, "writer", "the first failure");
     needed = 6;
     check(naltvigo_writer_encoded_raw(array, 2, out, 8, &needed, NALTVIGO_OK) == NALTVIGO_OK && needed == 8 && holds(out + 6, "\x81\x01", 2), "writer", "an item");
     needed = 0;
@@ -188,8 +188,8 @@ static void values_of_items(void) {
     check(naltvigo_get_string_raw(&text_item, 0, 2, &number, &length, 0) == NALTVIGO_WRONG_KIND && number == 0 && length == 0, "get_string", "of bytes");
     check(naltvigo_get_encoded_raw(&text_item, 0, &number, &length, 0) == NALTVIGO_OK && number == 3 && length == 3, "get_encoded", "a text");
     check(naltvigo_get_count_raw(&text_item, 0, &number, 0) == NALTVIGO_WRONG_KIND && number == 0, "get_count", "a text");
-    check(naltvigo_get_int_raw(&negative, NALTVIGO_NOT_THERE, &z, 0) == NALTVIGO_NOT_THERE && z == 0, "get_int", "no item");
-    check(naltvigo_get_int_raw(&negative, NALTVIGO_NOT_THERE, &z, NALTVIGO_WRONG_KIND) == NALTVIGO_WRONG_KIND && z == 0, "get_int", "a failure before");
+    check(naltvigo_get_int_raw(&negative, NALTVIGO_NOT_FOUND, &z, 0) == NALTVIGO_NOT_FOUND && z == 0, "get_int", "no item");
+    check(naltvigo_get_int_raw(&negative, NALTVIGO_NOT_FOUND, &z, NALTVIGO_WRONG_KIND) == NALTVIGO_WRONG_KIND && z == 0, "get_int", "a failure before");
 }
 
 static void all_items_in_a_table(void) {
@@ -215,16 +215,16 @@ static void an_item_in_parts(void) {
     struct naltvigo_refusal why = none;
     check(naltvigo_checker_new_raw(2, 0, 64, 100, &checker) == NALTVIGO_BAD_ORDER && !checker.memory, "checker", "order 2");
     check(naltvigo_checker_new_raw(0, 0, 64, 100, &checker) == NALTVIGO_OK && checker.memory, "checker", "new");
-    check(naltvigo_checker_take_raw(&checker, array, 1, &used, &why) == NALTVIGO_MORE && used == 1, "checker", "the head");
+    check(naltvigo_checker_feed_raw(&checker, array, 1, &used, &why) == NALTVIGO_MORE && used == 1, "checker", "the head");
     check(naltvigo_checker_end_raw(&checker, &why) == NALTVIGO_REFUSED && are(why, NALTVIGO_TRUNCATED, 1, 1), "checker", "the end");
     why = none;
-    check(naltvigo_checker_take_raw(&checker, array + 1, 1, &used, &why) == NALTVIGO_OK && used == 1, "checker", "the member");
-    check(naltvigo_checker_take_raw(&checker, array, 2, &used, &why) == NALTVIGO_OK && used == 0, "checker", "after the item");
+    check(naltvigo_checker_feed_raw(&checker, array + 1, 1, &used, &why) == NALTVIGO_OK && used == 1, "checker", "the member");
+    check(naltvigo_checker_feed_raw(&checker, array, 2, &used, &why) == NALTVIGO_OK && used == 0, "checker", "after the item");
     check(naltvigo_checker_end_raw(&checker, &why) == NALTVIGO_OK && are(why, 0, 0, 0), "checker", "the end of the item");
     check(naltvigo_checker_restart_raw(2, &checker) == NALTVIGO_BAD_ORDER, "checker", "restart in order 2");
     check(naltvigo_checker_restart_raw(1, &checker) == NALTVIGO_OK, "checker", "restart");
-    check(naltvigo_checker_take_raw(&checker, streamed, 0, &used, &why) == NALTVIGO_MORE && used == 0, "checker", "no byte");
-    check(naltvigo_checker_take_raw(&checker, streamed, 2, &used, &why) == NALTVIGO_REFUSED && used == 1 && are(why, NALTVIGO_INDEFINITE, 0, 1), "checker", "[_");
+    check(naltvigo_checker_feed_raw(&checker, streamed, 0, &used, &why) == NALTVIGO_MORE && used == 0, "checker", "no byte");
+    check(naltvigo_checker_feed_raw(&checker, streamed, 2, &used, &why) == NALTVIGO_REFUSED && used == 1 && are(why, NALTVIGO_INDEFINITE, 0, 1), "checker", "[_");
     check(naltvigo_checker_free_raw(&checker) == NALTVIGO_OK && !checker.memory, "checker", "free");
 }
 
@@ -254,7 +254,7 @@ static uint32_t byte_by_byte(const uint8_t *in, size_t n, uint32_t kinds, uint32
     size_t used, at;
     uint32_t s = naltvigo_checker_new_raw(0, kinds, depth, bytes, &checker);
     if (s != NALTVIGO_OK) return s;
-    for (s = NALTVIGO_MORE, at = 0; at < n && s == NALTVIGO_MORE; at++) s = naltvigo_checker_take_raw(&checker, in + at, 1, &used, why);
+    for (s = NALTVIGO_MORE, at = 0; at < n && s == NALTVIGO_MORE; at++) s = naltvigo_checker_feed_raw(&checker, in + at, 1, &used, why);
     if (s == NALTVIGO_MORE) s = naltvigo_checker_end_raw(&checker, why);
     naltvigo_checker_free_raw(&checker);
     return s;

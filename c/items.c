@@ -77,7 +77,7 @@ static uint32_t item_of_any(const uint8_t *in, size_t n, uint64_t offset, struct
     if (s == NALTVIGO_OK)
         check(item->offset == offset && offset < item->content && item->content <= item->end && item->end <= n && item->kind < 8 && item->entries == 0, "item", "offsets");
     else
-        check(s == NALTVIGO_NOT_THERE && same_item(item, &unset_item) && item->entries == unset_item.entries, "no item", "kept");
+        check(s == NALTVIGO_NOT_FOUND && same_item(item, &unset_item) && item->entries == unset_item.entries, "no item", "kept");
     return s;
 }
 
@@ -97,9 +97,9 @@ static void first_bytes(void) {
             const struct naltvigo_item wanted = {number, 0, content, content + more, kind, 0};
             struct naltvigo_item item;
             uint32_t s = item_of_any(in, n, 0, &item);
-            if (low > 27) check(s == NALTVIGO_NOT_THERE, "first byte", "none");
+            if (low > 27) check(s == NALTVIGO_NOT_FOUND, "first byte", "none");
             else if (kind != 5 && !(kind == 7 && size)) /* repeated keys, floats and the like are not canonical */
-                check(more > zeros ? s == NALTVIGO_NOT_THERE : s == NALTVIGO_OK && same_item(&item, &wanted), "first byte", "item");
+                check(more > zeros ? s == NALTVIGO_NOT_FOUND : s == NALTVIGO_OK && same_item(&item, &wanted), "first byte", "item");
             free(in);
         }
     }
@@ -150,7 +150,7 @@ static void finds(const uint8_t *in, size_t n, const struct naltvigo_item *entri
             if (same_key(in, &entries[pair], key)) value = &entries[of_value];
             pair = of_value + entries[of_value].entries;
         }
-        const uint32_t none = entries[map].kind == 5 ? NALTVIGO_NOT_THERE : NALTVIGO_WRONG_KIND;
+        const uint32_t none = entries[map].kind == 5 ? NALTVIGO_NOT_FOUND : NALTVIGO_WRONG_KIND;
         const size_t length = (size_t)(key->end - key->offset);
         struct naltvigo_item found = unset_item;
         uint32_t s = naltvigo_find(in, n, entries[map].offset, in + key->offset, length - 1, &found);
@@ -184,7 +184,7 @@ static void damaged(const uint8_t *in, size_t n, const uint8_t *key, size_t key_
         uint8_t *bytes = room_for(cut);
         struct naltvigo_item item;
         if (cut) memcpy(bytes, in, cut);
-        if (cut < n) check(item_of_any(bytes, cut, 0, &item) == NALTVIGO_NOT_THERE, "cut", "none");
+        if (cut < n) check(item_of_any(bytes, cut, 0, &item) == NALTVIGO_NOT_FOUND, "cut", "none");
         for (size_t c = 0; cut == n && n < 300 && c < n * sizeof changes; c++) {
             bytes[c / sizeof changes] ^= changes[c % sizeof changes];
             for (size_t offset = 0; offset < n + 2; offset++) {
@@ -192,7 +192,7 @@ static void damaged(const uint8_t *in, size_t n, const uint8_t *key, size_t key_
                 item = unset_item;
                 uint32_t s = naltvigo_find(bytes, n, offset, key, key_length, &item);
                 if (s == NALTVIGO_OK) check(item.offset < item.content && item.content <= item.end && item.end <= n, "damaged", "find");
-                else check((s == NALTVIGO_NOT_THERE || s == NALTVIGO_WRONG_KIND) && same_item(&item, &unset_item), "damaged", "kept");
+                else check((s == NALTVIGO_NOT_FOUND || s == NALTVIGO_WRONG_KIND) && same_item(&item, &unset_item), "damaged", "kept");
             }
             bytes[c / sizeof changes] ^= changes[c % sizeof changes];
         }
@@ -241,14 +241,14 @@ static void by_hand(void) {
     size_t needed = 999;
     indexes(in, sizeof in, NULL, wanted, 5);
     check(naltvigo_find(in, sizeof in, 3, in + 4, 1, &item) == NALTVIGO_OK && same_item(&item, &wanted[4]), "find", "0");
-    check(naltvigo_find(in, sizeof in, 3, in + 5, 1, &item) == NALTVIGO_NOT_THERE, "find", "true");
-    check(naltvigo_find(in, sizeof in, 3, NULL, 0, &item) == NALTVIGO_NOT_THERE, "find", "no key");
-    check(naltvigo_find(in, sizeof in, 6, in + 4, 1, &item) == NALTVIGO_NOT_THERE, "find", "after the end");
-    check(naltvigo_find(in, sizeof in, UINT64_MAX, in + 4, 1, &item) == NALTVIGO_NOT_THERE, "find", "far after the end");
-    check(naltvigo_find(NULL, 0, 0, NULL, 0, &item) == NALTVIGO_NOT_THERE, "find", "NULL");
-    check(item_of_any(NULL, 0, 0, &item) == NALTVIGO_NOT_THERE, "item", "NULL");
-    check(item_of_any(in, sizeof in, 6, &item) == NALTVIGO_NOT_THERE, "item", "after the end");
-    check(item_of_any(in, sizeof in, UINT64_MAX, &item) == NALTVIGO_NOT_THERE, "item", "far after the end");
+    check(naltvigo_find(in, sizeof in, 3, in + 5, 1, &item) == NALTVIGO_NOT_FOUND, "find", "true");
+    check(naltvigo_find(in, sizeof in, 3, NULL, 0, &item) == NALTVIGO_NOT_FOUND, "find", "no key");
+    check(naltvigo_find(in, sizeof in, 6, in + 4, 1, &item) == NALTVIGO_NOT_FOUND, "find", "after the end");
+    check(naltvigo_find(in, sizeof in, UINT64_MAX, in + 4, 1, &item) == NALTVIGO_NOT_FOUND, "find", "far after the end");
+    check(naltvigo_find(NULL, 0, 0, NULL, 0, &item) == NALTVIGO_NOT_FOUND, "find", "NULL");
+    check(item_of_any(NULL, 0, 0, &item) == NALTVIGO_NOT_FOUND, "item", "NULL");
+    check(item_of_any(in, sizeof in, 6, &item) == NALTVIGO_NOT_FOUND, "item", "after the end");
+    check(item_of_any(in, sizeof in, UINT64_MAX, &item) == NALTVIGO_NOT_FOUND, "item", "far after the end");
     check(naltvigo_index(NULL, 0, NULL, NULL, 0, &needed, NULL) == NALTVIGO_REFUSED && needed == 0, "index", "NULL");
     needed = 999;
     check(naltvigo_index(in, 6, OPTIONS(2, 64, 100), &item, 1, &needed, NULL) == NALTVIGO_BAD_ORDER && needed == 0, "index", "order");

@@ -93,7 +93,7 @@ static void take(const struct events_row *row, const uint8_t *in, size_t n, size
         struct naltvigo_event events[65];
         size_t offered = n - at < part ? n - at : part, used = 999, many = 999;
         for (size_t i = 0; i < 65; i++) events[i] = unset;
-        status = naltvigo_machine_take(&machine, in + at, offered, &used, events, space, &many, &why);
+        status = naltvigo_machine_feed(&machine, in + at, offered, &used, events, space, &many, &why);
         check(used <= offered && many <= space, "used and reported", row->given);
         check(status != NALTVIGO_MORE || used == offered, "the whole part", row->given);
         check(status != NALTVIGO_EVENT || many == space, "a full array", row->given);
@@ -120,7 +120,7 @@ static void without_room(void) {
     struct naltvigo_refusal why;
     size_t used = 999, reported = 999;
     naltvigo_machine_start(LIMITS(2, 8), &machine);
-    check(naltvigo_machine_take(&machine, (const uint8_t *)"", 1, &used, NULL, 0, &reported, &why) == NALTVIGO_EVENT
+    check(naltvigo_machine_feed(&machine, (const uint8_t *)"", 1, &used, NULL, 0, &reported, &why) == NALTVIGO_EVENT
               && used == 0 && reported == 0 && machine.consumed == 0,
           "no space", "00");
 }

@@ -71,11 +71,11 @@ static uint32_t next_canonical(void) {
 /* What a writer put: [_ {"Fun": h'0102', "Amt": -2}, {2: 5, 1: 4}], out of order */
 static uint32_t finish(void) {
     static uint8_t items[64];
-    struct naltvigo_writer w = naltvigo_write_to(items, sizeof items);
+    struct naltvigo_writer w = naltvigo_writer_to(items, sizeof items);
     naltvigo_put_array(&w), naltvigo_put_map(&w);
     naltvigo_put_text(&w, "Fun"), naltvigo_put_bytes(&w, "\1\2", 2);
     naltvigo_put_text(&w, "Amt"), naltvigo_put_int(&w, -2);
-    naltvigo_put_end(&w), naltvigo_put_map_of(&w, 2);
+    naltvigo_put_end(&w), naltvigo_put_map_n(&w, 2);
     naltvigo_put_int(&w, 2), naltvigo_put_int(&w, 5), naltvigo_put_int(&w, 1), naltvigo_put_int(&w, 4);
     naltvigo_put_end(&w);
     return naltvigo_finish(&w, NULL, out, sizeof out, &needed, &why);
@@ -86,13 +86,13 @@ static uint32_t look_up(void) {
     static const uint8_t item[] = {0xa2, 0x63, 'A', 'm', 't', 0x21, 0x63, 'F', 'u', 'n', 0x82, 1, 2};
     uint8_t items[8];
     uint32_t status = NALTVIGO_OK;
-    struct naltvigo_writer w = naltvigo_write_to(items, sizeof items);
+    struct naltvigo_writer w = naltvigo_writer_to(items, sizeof items);
     const struct naltvigo_cursor map = naltvigo_open(item, sizeof item, NULL, &why);
     const struct naltvigo_cursor array = naltvigo_at_text(map, "Fun");
     char long_key[100] = {0};
     naltvigo_put_encoded(&w, item + 10, 3), naltvigo_put_int(&w, naltvigo_get_int(naltvigo_at_text(map, "Amt"), &status));
     naltvigo_get_int(naltvigo_next(naltvigo_first(array)), &status), naltvigo_get_int(naltvigo_at_index(array, 1), &status);
-    naltvigo_at_int(map, 1), naltvigo_at_text_of(map, long_key, sizeof long_key);
+    naltvigo_at_int(map, 1), naltvigo_at_text_n(map, long_key, sizeof long_key);
     return w.status == NALTVIGO_OK ? status : w.status;
 }
 
@@ -147,7 +147,7 @@ static uint32_t take_parts(struct naltvigo_checker *checker, const uint8_t *item
     uint32_t status = NALTVIGO_MORE;
     size_t now;
     for (*used = 0; *used < length && status == NALTVIGO_MORE; *used += now)
-        status = naltvigo_checker_take(checker, item + *used, length - *used < part ? length - *used : part, &now, &why);
+        status = naltvigo_checker_feed(checker, item + *used, length - *used < part ? length - *used : part, &now, &why);
     return status;
 }
 
@@ -156,7 +156,7 @@ static int goes_on(struct naltvigo_checker *checker, const uint8_t *item, size_t
     const struct naltvigo_refusal first = why;
     size_t now = 9;
     int bad = first.reason != NALTVIGO_MEMORY || first.offset != first.consumed || first.consumed != used || used == 0;
-    bad |= naltvigo_checker_take(checker, item, length, &now, &why) != NALTVIGO_NO_MEMORY || now != 0;
+    bad |= naltvigo_checker_feed(checker, item, length, &now, &why) != NALTVIGO_NO_MEMORY || now != 0;
     bad |= naltvigo_checker_end(checker, &why) != NALTVIGO_NO_MEMORY || memcmp(&why, &first, sizeof why) != 0;
     bad |= naltvigo_checker_restart(1, checker) != NALTVIGO_OK;
     return bad | (take_parts(checker, item, length, part, &now) != NALTVIGO_OK || now != length);

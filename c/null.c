@@ -31,7 +31,7 @@ static uint32_t call(int which, const uint8_t *in, size_t length, struct naltvig
     case 9: status = naltvigo_index(in, length, NULL, NULL, 0, &needed, why); break;
     default:
         naltvigo_machine_start(NULL, &machine);
-        status = naltvigo_machine_take(&machine, in, length, &used, events, 4, &needed, why);
+        status = naltvigo_machine_feed(&machine, in, length, &used, events, 4, &needed, why);
     }
     *said = needed + 1000 * used + 1000000 * side;
     return status;
@@ -60,10 +60,10 @@ int main(void) {
             refused += status == NALTVIGO_REFUSED;
         }
     check(refused > 25, "null", "refusals are among them");
-    check(naltvigo_item_at(NULL, 0, 0, &item) == NALTVIGO_NOT_THERE, "null", "item_at");
-    check(naltvigo_find(NULL, 0, 0, NULL, 0, &item) == NALTVIGO_NOT_THERE, "null", "find in nothing");
+    check(naltvigo_item_at(NULL, 0, 0, &item) == NALTVIGO_NOT_FOUND, "null", "item_at");
+    check(naltvigo_find(NULL, 0, 0, NULL, 0, &item) == NALTVIGO_NOT_FOUND, "null", "find in nothing");
     out[0] = 0xa0; /* {} */
-    check(naltvigo_find(out, 1, 0, NULL, 0, &item) == NALTVIGO_NOT_THERE, "null", "find no key");
+    check(naltvigo_find(out, 1, 0, NULL, 0, &item) == NALTVIGO_NOT_FOUND, "null", "find no key");
     check(naltvigo_put_head(4, 24, NULL, 0, &used) == NALTVIGO_TOO_SMALL && used == 2, "null", "put_head");
     naltvigo_machine_start(NULL, &machine);
     check(naltvigo_machine_step(&machine, (const uint8_t *)"\xff", 1, &used, &event, NULL) == NALTVIGO_REFUSED, "null", "step");

@@ -83,7 +83,7 @@ static void copy_scalar(struct naltvigo_cursor at, struct naltvigo_writer *w, ui
         write_word("'");
         break;
     case NALTVIGO_TEXT:
-        chars = naltvigo_get_text(at, &length, status), naltvigo_put_text_of(w, chars, length);
+        chars = naltvigo_get_text(at, &length, status), naltvigo_put_text_n(w, chars, length);
         write_quoted(chars, length);
         break;
     default:
@@ -100,13 +100,13 @@ static void copy_members(struct naltvigo_cursor at, struct naltvigo_writer *w, u
     const uint64_t count = naltvigo_get_count(at, status), members = is_map ? 2 * count : count;
     struct naltvigo_cursor member;
     uint64_t i = 0;
-    if (is_map) naltvigo_put_map_of(w, count), write_word("{");
+    if (is_map) naltvigo_put_map_n(w, count), write_word("{");
     else naltvigo_put_array(w), write_word("[");
     for (member = naltvigo_first(at); member.status == NALTVIGO_OK; member = naltvigo_next(member), i++) {
         if (i) write_word(is_map && i % 2 ? ": " : ", ");
         copy(member, w);
     }
-    check(member.status == NALTVIGO_NOT_THERE && i == members, "copy", "members");
+    check(member.status == NALTVIGO_NOT_FOUND && i == members, "copy", "members");
     if (!is_map) naltvigo_put_end(w);
     write_word(is_map ? "}" : "]");
 }
@@ -136,7 +136,7 @@ static void is_copied(const uint8_t *in, size_t n, const struct naltvigo_options
     char *diagnostic = room_for(8 * n + 64);
     size_t needed = 0, length;
     uint32_t status = NALTVIGO_OK;
-    struct naltvigo_writer w = naltvigo_write_to(items, space), once = naltvigo_write_to(out, n);
+    struct naltvigo_writer w = naltvigo_writer_to(items, space), once = naltvigo_writer_to(out, n);
     const struct naltvigo_cursor root = naltvigo_open(in, n, options, NULL);
     check(root.status == NALTVIGO_OK, "open", what);
     check(naltvigo_index(in, n, options, table, sizeof table / sizeof *table, &table_length, NULL) == NALTVIGO_OK, "table", what);
@@ -155,14 +155,14 @@ static void is_copied(const uint8_t *in, size_t n, const struct naltvigo_options
 /* Counts, writes, finishes, reads. Returns the number of items. */
 static uint64_t random_round_trip(void) {
     const uint64_t from = seed;
-    struct naltvigo_writer counted = naltvigo_write_to(NULL, 0), w;
+    struct naltvigo_writer counted = naltvigo_writer_to(NULL, 0), w;
     uint8_t *items, *out;
     size_t length = 0;
     uint64_t read, drawn;
     put_sample(&counted, 5);
     drawn = seed;
     items = room_for(counted.needed), out = room_for(counted.needed);
-    w = naltvigo_write_to(items, counted.needed);
+    w = naltvigo_writer_to(items, counted.needed);
     seed = from;
     put_sample(&w, 5);
     check(w.status == NALTVIGO_OK && w.needed == counted.needed, "random", "counted");

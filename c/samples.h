@@ -57,7 +57,7 @@ static void put_key(struct naltvigo_writer *w, const struct key *it) {
     switch (it->kind) {
     case 0: naltvigo_put_uint(w, it->number); break;
     case 1: naltvigo_put_int(w, -1 - (int64_t)it->number); break;
-    case 2: naltvigo_put_text_of(w, it->text.bytes, it->text.length); break;
+    case 2: naltvigo_put_text_n(w, it->text.bytes, it->text.length); break;
     case 3: naltvigo_put_bytes(w, it->text.bytes, it->text.length); break;
     case 4: naltvigo_put_uint(w, UINT64_MAX - it->number); break;
     default:
@@ -71,11 +71,11 @@ static void put_key(struct naltvigo_writer *w, const struct key *it) {
 static inline struct naltvigo_cursor at_key(struct naltvigo_cursor map, const struct key *it, int by_bytes) {
     uint8_t items[400], bytes[400];
     size_t length = 0;
-    struct naltvigo_writer w = naltvigo_write_to(items, sizeof items);
+    struct naltvigo_writer w = naltvigo_writer_to(items, sizeof items);
     if (!by_bytes) switch (it->kind) {
     case 0: return naltvigo_at_uint(map, it->number);
     case 1: return naltvigo_at_int(map, -1 - (int64_t)it->number);
-    case 2: return naltvigo_at_text_of(map, it->text.bytes, it->text.length);
+    case 2: return naltvigo_at_text_n(map, it->text.bytes, it->text.length);
     case 4: return naltvigo_at_uint(map, UINT64_MAX - it->number);
     default: break;
     }
@@ -95,7 +95,7 @@ static void put_scalar(struct naltvigo_writer *w, uint64_t kind) {
     case 1: naltvigo_put_negative(w, draw_number()); break;
     case 2: number = draw_number(), naltvigo_put_int(w, number > INT64_MAX ? -1 - (int64_t)~number : (int64_t)number); break;
     case 3: string = draw_string(), naltvigo_put_bytes(w, string.bytes, string.length); break;
-    case 4: string = draw_string(), naltvigo_put_text_of(w, string.bytes, string.length); break;
+    case 4: string = draw_string(), naltvigo_put_text_n(w, string.bytes, string.length); break;
     case 5: naltvigo_put_bool(w, (int)below(2)); break;
     default: naltvigo_put_simple(w, (uint8_t)(below(2) ? below(24) : 32 + below(224)));
     }
@@ -112,9 +112,9 @@ static void put_sample(struct naltvigo_writer *w, int depth) {
     } else {
         const int is_map = kind == SCALARS + 1;
         count = below(MEMBERS), counted = below(2);
-        if (is_map && counted) naltvigo_put_map_of(w, count);
+        if (is_map && counted) naltvigo_put_map_n(w, count);
         else if (is_map) naltvigo_put_map(w);
-        else if (counted) naltvigo_put_array_of(w, count);
+        else if (counted) naltvigo_put_array_n(w, count);
         else naltvigo_put_array(w);
         for (i = 0; i < count; i++) {
             if (is_map) {

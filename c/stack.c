@@ -20,7 +20,7 @@ static uintptr_t lowest;
 
 static const char *const names[CALLS] = {"canonicalise", "check_canonical", "check_valid", "next_canonical",
                                          "next_valid", "compare", "diagnostic", "index", "find", "explain",
-                                         "machine_take", "checker_take"};
+                                         "machine_feed", "checker_feed"};
 static uint8_t in[16384], out[65536];
 static struct naltvigo_item items[16384];
 static size_t length;
@@ -34,7 +34,7 @@ static void events(void) {
     struct naltvigo_refusal why;
     size_t used, reported, at = 0;
     naltvigo_machine_start(LIMITS(depth, 1 << 20), &machine);
-    while (naltvigo_machine_take(&machine, in + at, length - at, &used, space, 4, &reported, &why) == NALTVIGO_EVENT) at += used;
+    while (naltvigo_machine_feed(&machine, in + at, length - at, &used, space, 4, &reported, &why) == NALTVIGO_EVENT) at += used;
 }
 
 /* All calls of a checker, which lies elsewhere too. */
@@ -43,8 +43,8 @@ static void check_parts(void) {
     struct naltvigo_refusal why;
     size_t used;
     if (naltvigo_checker_new(OPTIONS(0, depth, 1 << 20), &checker) != NALTVIGO_OK) exit(2);
-    naltvigo_checker_take(&checker, in, length / 2, &used, &why);
-    naltvigo_checker_take(&checker, in + length / 2, length - length / 2, &used, &why);
+    naltvigo_checker_feed(&checker, in, length / 2, &used, &why);
+    naltvigo_checker_feed(&checker, in + length / 2, length - length / 2, &used, &why);
     naltvigo_checker_end(&checker, &why);
     naltvigo_checker_restart(1, &checker);
     naltvigo_checker_free(&checker);

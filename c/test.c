@@ -209,7 +209,7 @@ static void names(void) {
     }
     check(strcmp(naltvigo_status_name(NALTVIGO_OK), "OK") == 0, "status", "OK");
     check(strcmp(naltvigo_status_name(NALTVIGO_BAD_MACHINE), "BAD_MACHINE") == 0, "status", "BAD_MACHINE");
-    check(strcmp(naltvigo_status_name(NALTVIGO_NOT_THERE), "NOT_THERE") == 0, "status", "NOT_THERE");
+    check(strcmp(naltvigo_status_name(NALTVIGO_NOT_FOUND), "NOT_FOUND") == 0, "status", "NOT_FOUND");
     check(strcmp(naltvigo_status_name(NALTVIGO_WRONG_KIND), "WRONG_KIND") == 0, "status", "WRONG_KIND");
     check(strcmp(naltvigo_status_name(NALTVIGO_BAD_HEAD), "BAD_HEAD") == 0, "status", "BAD_HEAD");
     check(strcmp(naltvigo_status_name(NALTVIGO_OUT_OF_RANGE), "OUT_OF_RANGE") == 0, "status", "OUT_OF_RANGE");
@@ -294,8 +294,8 @@ static void no_refusal_wanted(void) {
         check(naltvigo_compare(in, 1, in, 1, NULL, &side, NULL) == wanted, "no refusal", "compare");
         check(naltvigo_diagnostic(in, 1, NULL, (char *)out, sizeof out, &needed, NULL) == wanted, "no refusal", "diagnostic");
         naltvigo_machine_start(NULL, &machine);
-        uint32_t s = naltvigo_machine_take(&machine, in, 1, &used, &event, 1, &reported, NULL);
-        check(s == (refused ? NALTVIGO_REFUSED : NALTVIGO_EVENT), "no refusal", "machine_take");
+        uint32_t s = naltvigo_machine_feed(&machine, in, 1, &used, &event, 1, &reported, NULL);
+        check(s == (refused ? NALTVIGO_REFUSED : NALTVIGO_EVENT), "no refusal", "machine_feed");
         check(naltvigo_machine_step(&machine, NULL, 0, &used, &event, NULL) == wanted, "no refusal", "machine_step");
     }
 }

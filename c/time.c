@@ -22,7 +22,7 @@
 enum { MIB = 1 << 20, SPACE = 4 * MIB, CALLS = 12 };
 
 static const char *const names[CALLS] = {"check_valid", "canonicalise", "compare",         "diagnostic",     "explain",
-                                         "next_valid",  "machine_take", "check_canonical", "next_canonical", "index", "find", "checker_take"};
+                                         "next_valid",  "machine_feed", "check_canonical", "next_canonical", "index", "find", "checker_feed"};
 /* The first call that takes canonical bytes alone. */
 enum { CHECK = 0, CANONICAL = 7 };
 /* How many times as long as harmless bytes others may take. */
@@ -124,7 +124,7 @@ static void events(void) {
     struct naltvigo_refusal why;
     size_t used, reported, at = 0;
     naltvigo_machine_start(ALL, &machine);
-    while (naltvigo_machine_take(&machine, in + at, length - at, &used, space, 64, &reported, &why) == NALTVIGO_EVENT) at += used;
+    while (naltvigo_machine_feed(&machine, in + at, length - at, &used, space, 64, &reported, &why) == NALTVIGO_EVENT) at += used;
 }
 
 /* In small parts, so that a call that copies what it keeps takes too long. */
@@ -134,7 +134,7 @@ static void check_parts(void) {
     size_t used, at;
     if (naltvigo_checker_new(ALL, &checker) != NALTVIGO_OK) exit(2);
     for (at = 0; at < own_length; at += used)
-        if (naltvigo_checker_take(&checker, own + at, own_length - at < 64 ? own_length - at : 64, &used, &why) != NALTVIGO_MORE) break;
+        if (naltvigo_checker_feed(&checker, own + at, own_length - at < 64 ? own_length - at : 64, &used, &why) != NALTVIGO_MORE) break;
     naltvigo_checker_free(&checker);
 }
 

@@ -24,7 +24,7 @@ static void put_value(struct naltvigo_writer *writer, struct naltvigo_cursor at,
         break;
     case NALTVIGO_TEXT:
         bytes = naltvigo_get_text(at, &length, status);
-        naltvigo_put_text_of(writer, (const char *)bytes, length);
+        naltvigo_put_text_n(writer, (const char *)bytes, length);
         break;
     case NALTVIGO_ARRAY: naltvigo_put_array(writer); put_members(writer, naltvigo_first(at), status); break;
     case NALTVIGO_MAP: naltvigo_put_map(writer); put_members(writer, naltvigo_first(at), status); break;
@@ -54,11 +54,11 @@ static void write_line(const uint8_t *in, size_t length, const struct naltvigo_o
         printf("refused %d %s at %llu\n", (int)why.reason, name, (unsigned long long)why.offset);
     } else {
         const struct naltvigo_cursor root = naltvigo_open(canonical, needed, options, NULL);
-        struct naltvigo_writer writer = naltvigo_write_to(NULL, 0);
+        struct naltvigo_writer writer = naltvigo_writer_to(NULL, 0);
         put_value(&writer, root, &status); /* counts */
         items = room_for(writer.needed);
         out = room_for(needed);
-        writer = naltvigo_write_to(items, writer.needed);
+        writer = naltvigo_writer_to(items, writer.needed);
         put_value(&writer, root, &status);
         if (status == NALTVIGO_OK) status = naltvigo_finish(&writer, options, out, needed, &needed, &why);
         if (status == NALTVIGO_OK)

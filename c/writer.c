@@ -52,7 +52,7 @@ static const struct {
 /* Puts an integer: unsigned, or -1 minus the number; with its own call, or as int64_t if it is in range. */
 static void puts_integer(uint64_t number, int is_negative, int by_int, const char *hex) {
     uint8_t items[9];
-    struct naltvigo_writer writer = naltvigo_write_to(items, sizeof items);
+    struct naltvigo_writer writer = naltvigo_writer_to(items, sizeof items);
     if (by_int) naltvigo_put_int(&writer, is_negative ? -1 - (int64_t)number : (int64_t)number);
     else if (is_negative) naltvigo_put_negative(&writer, number);
     else naltvigo_put_uint(&writer, number);
@@ -103,9 +103,9 @@ static void put_numbers_to_25(struct naltvigo_writer *w) {
 
 /* The keys of section 4.2.1, the last one first. */
 static void put_keys_in_no_order(struct naltvigo_writer *w) {
-    naltvigo_put_map_of(w, 8);
+    naltvigo_put_map_n(w, 8);
     naltvigo_put_bool(w, 0), naltvigo_put_int(w, 8);
-    naltvigo_put_array_of(w, 1), naltvigo_put_int(w, -1), naltvigo_put_int(w, 7);
+    naltvigo_put_array_n(w, 1), naltvigo_put_int(w, -1), naltvigo_put_int(w, 7);
     naltvigo_put_array(w), naltvigo_put_int(w, 100), naltvigo_put_end(w), naltvigo_put_int(w, 6);
     naltvigo_put_text(w, "z"), naltvigo_put_int(w, 5);
     naltvigo_put_int(w, -1), naltvigo_put_int(w, 4);
@@ -132,12 +132,12 @@ static const char *put_scalar(int row, struct naltvigo_writer *w) {
     case 12: return naltvigo_put_bytes(w, NULL, 0), "40";
     case 13: return naltvigo_put_bytes(w, "\1\2\3\4", 4), "4401020304";
     case 14: return naltvigo_put_text(w, ""), "60";
-    case 15: return naltvigo_put_text_of(w, NULL, 0), "60";
+    case 15: return naltvigo_put_text_n(w, NULL, 0), "60";
     case 16: return naltvigo_put_text(w, "IETF"), "6449455446";
     case 17: return naltvigo_put_text(w, "\"\\"), "62225c";
     case 18: return naltvigo_put_text(w, "\xc3\xbc"), "62c3bc";
     case 19: return naltvigo_put_text(w, "\xf0\x90\x85\x91"), "64f0908591";
-    case 20: return naltvigo_put_text_of(w, "a\0b", 3), "63610062";
+    case 20: return naltvigo_put_text_n(w, "a\0b", 3), "63610062";
     default: return NULL;
     }
 }
@@ -145,17 +145,17 @@ static const char *put_scalar(int row, struct naltvigo_writer *w) {
 static const char *put_container(int row, struct naltvigo_writer *w) {
     static const char to_25[] = "98190102030405060708090a0b0c0d0e0f101112131415161718181819";
     switch (row) {
-    case 0: return naltvigo_put_array_of(w, 0), "80";
+    case 0: return naltvigo_put_array_n(w, 0), "80";
     case 1: return naltvigo_put_array(w), naltvigo_put_end(w), "80";
-    case 2: return naltvigo_put_map_of(w, 0), "a0";
+    case 2: return naltvigo_put_map_n(w, 0), "a0";
     case 3: return naltvigo_put_map(w), naltvigo_put_end(w), "a0";
     case 4: /* [1, [2, 3], [4, 5]] */
-        naltvigo_put_array_of(w, 3), naltvigo_put_int(w, 1);
+        naltvigo_put_array_n(w, 3), naltvigo_put_int(w, 1);
         naltvigo_put_array(w), naltvigo_put_int(w, 2), naltvigo_put_int(w, 3), naltvigo_put_end(w);
         naltvigo_put_encoded(w, (const uint8_t *)"\x82\4\5", 3);
         return "8301820203820405";
     case 5: return naltvigo_put_array(w), put_numbers_to_25(w), naltvigo_put_end(w), to_25;
-    case 6: return naltvigo_put_array_of(w, 25), put_numbers_to_25(w), to_25;
+    case 6: return naltvigo_put_array_n(w, 25), put_numbers_to_25(w), to_25;
     case 7: /* {"Fun": true, "Amt": -2}, out of order */
         naltvigo_put_map(w), naltvigo_put_text(w, "Fun"), naltvigo_put_bool(w, 1);
         naltvigo_put_text(w, "Amt"), naltvigo_put_int(w, -2), naltvigo_put_end(w);
@@ -167,14 +167,14 @@ static const char *put_container(int row, struct naltvigo_writer *w) {
 
 /* Puts a row into buffers with space for nothing and up to a byte more than needed. */
 static int puts_row(const char *(*put)(int, struct naltvigo_writer *), int row) {
-    struct naltvigo_writer counted = naltvigo_write_to(NULL, 0);
+    struct naltvigo_writer counted = naltvigo_writer_to(NULL, 0);
     const char *hex = put(row, &counted);
     if (!hex) return 0;
     check(counted.status == NALTVIGO_TOO_SMALL, "counted", hex);
     for (size_t space = 0; space <= counted.needed + 1; space++) {
         uint8_t *items = room_for(space);
         size_t needed = 999;
-        struct naltvigo_writer writer = naltvigo_write_to(items, space);
+        struct naltvigo_writer writer = naltvigo_writer_to(items, space);
         put(row, &writer);
         check(writer.needed == counted.needed, "needed", hex);
         check(writer.status == (space < counted.needed ? NALTVIGO_TOO_SMALL : NALTVIGO_OK), "space", hex);
@@ -196,11 +196,11 @@ static void long_ones(void) {
     for (size_t i = 0; i < sizeof strings / sizeof *strings; i++) {
         const size_t length = strings[i].length;
         for (int is_text = 0; is_text < 2; is_text++) {
-            struct naltvigo_writer w = naltvigo_write_to(items, sizeof items), once = naltvigo_write_to(again, sizeof again);
+            struct naltvigo_writer w = naltvigo_writer_to(items, sizeof items), once = naltvigo_writer_to(again, sizeof again);
             size_t n;
             uint8_t *head = unhex(strings[i].head, &n);
             head[0] = (uint8_t)(head[0] + 32 * is_text); /* major type 3 */
-            if (is_text) naltvigo_put_text_of(&w, (const char *)from, length);
+            if (is_text) naltvigo_put_text_n(&w, (const char *)from, length);
             else naltvigo_put_bytes(&w, from, length);
             check(w.status == NALTVIGO_OK && w.needed == n + length, "a long string", strings[i].head);
             check(memcmp(items, head, n) == 0 && memcmp(items + n, from, length) == 0, "its bytes", strings[i].head);
@@ -210,9 +210,9 @@ static void long_ones(void) {
         }
     }
     for (int is_map = 0; is_map < 2; is_map++) {
-        struct naltvigo_writer w = naltvigo_write_to(items, sizeof items);
-        if (is_map) naltvigo_put_map_of(&w, UINT64_C(1) << 32);
-        else naltvigo_put_array_of(&w, UINT64_C(1) << 32);
+        struct naltvigo_writer w = naltvigo_writer_to(items, sizeof items);
+        if (is_map) naltvigo_put_map_n(&w, UINT64_C(1) << 32);
+        else naltvigo_put_array_n(&w, UINT64_C(1) << 32);
         check(w.needed == 9 && memcmp(items, is_map ? "\xbb\0\0\0\1\0\0\0\0" : "\x9b\0\0\0\1\0\0\0\0", 9) == 0, "a long count", is_map ? "map" : "array");
     }
 }
@@ -224,7 +224,7 @@ static void simple_values_that_do_not_exist(void) {
     for (int number = 0; number < 256; number++) {
         uint8_t items[4];
         size_t needed = 999;
-        struct naltvigo_writer writer = naltvigo_write_to(items, number % 2 ? 0 : sizeof items);
+        struct naltvigo_writer writer = naltvigo_writer_to(items, number % 2 ? 0 : sizeof items);
         const uint32_t space = number % 2 ? NALTVIGO_TOO_SMALL : NALTVIGO_OK, bad = number / 8 == 3;
         naltvigo_put_null(&writer);
         naltvigo_put_simple(&writer, (uint8_t)number);
@@ -241,16 +241,16 @@ static void only_whole_items_are_put(void) {
     uint8_t items[32], *bytes;
     size_t n, needed = 999;
     for (size_t i = 0; i < sizeof others / sizeof *others; i++) {
-        struct naltvigo_writer writer = naltvigo_write_to(items, i % 2 ? sizeof items : 0);
+        struct naltvigo_writer writer = naltvigo_writer_to(items, i % 2 ? sizeof items : 0);
         bytes = unhex(others[i], &n);
         naltvigo_put_encoded(&writer, bytes, n);
-        check(writer.status == NALTVIGO_NOT_THERE && writer.needed == 0, "no item", others[i]);
+        check(writer.status == NALTVIGO_NOT_FOUND && writer.needed == 0, "no item", others[i]);
         naltvigo_put_int(&writer, 1);
-        check(naltvigo_finish(&writer, NULL, items, sizeof items, &needed, NULL) == NALTVIGO_NOT_THERE && needed == 0, "no item, finish", others[i]);
+        check(naltvigo_finish(&writer, NULL, items, sizeof items, &needed, NULL) == NALTVIGO_NOT_FOUND && needed == 0, "no item, finish", others[i]);
         free(bytes);
     }
     for (size_t i = 0; i < sizeof whole / sizeof *whole; i++) {
-        struct naltvigo_writer writer = naltvigo_write_to(items, sizeof items);
+        struct naltvigo_writer writer = naltvigo_writer_to(items, sizeof items);
         bytes = unhex(whole[i], &n);
         naltvigo_put_encoded(&writer, bytes, n);
         check(writer.status == NALTVIGO_OK && writer.needed == n && memcmp(items, bytes, n) == 0, "an item", whole[i]);
@@ -268,9 +268,9 @@ static void is_refused(const struct naltvigo_writer *writer, uint32_t reason, ui
 
 static void mistakes_are_refused(void) {
     uint8_t items[64];
-    struct naltvigo_writer w = naltvigo_write_to(items, sizeof items), one_of_two;
+    struct naltvigo_writer w = naltvigo_writer_to(items, sizeof items), one_of_two;
     is_refused(&w, NALTVIGO_TRUNCATED, 0, "nothing was put");
-    naltvigo_put_array_of(&w, 2), naltvigo_put_int(&w, 1);
+    naltvigo_put_array_n(&w, 2), naltvigo_put_int(&w, 1);
     is_refused(&w, NALTVIGO_TRUNCATED, 2, "one of two members");
     one_of_two = w;
     naltvigo_put_int(&w, 2), naltvigo_put_int(&w, 3);
@@ -278,14 +278,14 @@ static void mistakes_are_refused(void) {
     w = one_of_two; /* back to there */
     naltvigo_put_end(&w);
     is_refused(&w, NALTVIGO_STRAY_BREAK, 2, "an end after a count");
-    w = naltvigo_write_to(items, sizeof items);
+    w = naltvigo_writer_to(items, sizeof items);
     naltvigo_put_map(&w), naltvigo_put_int(&w, 1), naltvigo_put_end(&w);
     is_refused(&w, NALTVIGO_STRAY_BREAK, 2, "a key without a value");
-    w = naltvigo_write_to(items, sizeof items);
+    w = naltvigo_writer_to(items, sizeof items);
     naltvigo_put_map(&w), naltvigo_put_int(&w, 1), naltvigo_put_null(&w), naltvigo_put_int(&w, 1), naltvigo_put_null(&w);
     is_refused(&w, NALTVIGO_REPEATED_KEY, 3, "equal keys");
-    w = naltvigo_write_to(items, sizeof items);
-    naltvigo_put_text_of(&w, "a\xff", 2);
+    w = naltvigo_writer_to(items, sizeof items);
+    naltvigo_put_text_n(&w, "a\xff", 2);
     is_refused(&w, NALTVIGO_INVALID_TEXT, 2, "no UTF-8");
 }
 
@@ -294,7 +294,7 @@ static void finishes_by_options(void) {
     uint8_t items[64];
     size_t needed = 999;
     struct naltvigo_options options = naltvigo_defaults();
-    struct naltvigo_writer writer = naltvigo_write_to(items, sizeof items);
+    struct naltvigo_writer writer = naltvigo_writer_to(items, sizeof items);
     put_keys_in_no_order(&writer);
     options.order = NALTVIGO_LENGTH_FIRST;
     becomes_by(&options, &writer, "a80a022004f408186403617a058120076261610181186406");
@@ -307,11 +307,11 @@ static void finishes_by_options(void) {
 
 /* A count that does not fit is the maximum. */
 static void counts_without_wrapping(void) {
-    struct naltvigo_writer writer = naltvigo_write_to(NULL, 0);
+    struct naltvigo_writer writer = naltvigo_writer_to(NULL, 0);
     writer.needed = SIZE_MAX - 1; /* as if this number of bytes had been put */
     naltvigo_put_int(&writer, 1000);
     check(writer.needed == SIZE_MAX && writer.status == NALTVIGO_TOO_SMALL, "count", "greatest");
-    writer = naltvigo_write_to(NULL, 100); /* nothing is written to a null buffer, whatever its length */
+    writer = naltvigo_writer_to(NULL, 100); /* nothing is written to a null buffer, whatever its length */
     naltvigo_put_text(&writer, "abc");
     check(writer.needed == 4 && writer.status == NALTVIGO_TOO_SMALL, "count", "no buffer");
 }

@@ -6,7 +6,7 @@
 /* Makes the canonical bytes of the claims. */
 static uint32_t make_claims(uint8_t *out, size_t out_length, size_t *length) {
     uint8_t items[128];
-    struct naltvigo_writer claims = naltvigo_write_to(items, sizeof items);
+    struct naltvigo_writer claims = naltvigo_writer_to(items, sizeof items);
     naltvigo_put_map(&claims);
     naltvigo_put_int(&claims, 4); naltvigo_put_uint(&claims, 1444064944); /* expires */
     naltvigo_put_int(&claims, 5); naltvigo_put_uint(&claims, 1443944944); /* not before */
@@ -23,8 +23,8 @@ static uint32_t make_claims(uint8_t *out, size_t out_length, size_t *length) {
 static uint32_t make_bytes_to_sign(const uint8_t *payload, size_t payload_length, uint8_t *out, size_t out_length,
                                    size_t *length) {
     uint8_t items[256];
-    struct naltvigo_writer to_sign = naltvigo_write_to(items, sizeof items);
-    naltvigo_put_array_of(&to_sign, 4);
+    struct naltvigo_writer to_sign = naltvigo_writer_to(items, sizeof items);
+    naltvigo_put_array_n(&to_sign, 4);
     naltvigo_put_text(&to_sign, "Signature1");
     naltvigo_put_bytes(&to_sign, "\xa1\x01\x26", 3); /* {1: -7}, ECDSA with SHA-256 */
     naltvigo_put_bytes(&to_sign, NULL, 0);

@@ -13,7 +13,7 @@ int main(void) {
     while (status == NALTVIGO_MORE && (length = fread(part, 1, sizeof part, stdin)) > 0) {
         at = 0;
         do {
-            status = naltvigo_machine_take(&machine, part + at, length - at, &used, events, 64, &reported, &why);
+            status = naltvigo_machine_feed(&machine, part + at, length - at, &used, events, 64, &reported, &why);
             for (i = 0; i < reported; i++)
                 printf("%llu kind %u, %llu\n", (unsigned long long)events[i].offset, (unsigned)events[i].kind,
                        (unsigned long long)events[i].number);

@@ -90,7 +90,7 @@ class Cases:
         self.last = Results(b"\x00", LIMITS)
 
     def there(self, value):
-        """The steps from a value that lead somewhere and that SQL has."""
+        """The steps that lead from a value to another one and that SQL can express."""
         if value and value[0] == ARRAY:
             return list(range(len(value[1])))
         if value and value[0] == TAG:
@@ -99,7 +99,7 @@ class Cases:
         return [key for key in (key_of(key) for key, _ in pairs) if key is not None]
 
     def steps(self, value):
-        """One or two steps, most of them such as lead somewhere."""
+        """One or two steps, most of which lead to a value."""
         found = []
         for _ in range(self.chance.choice([1, 1, 2])):
             there = self.there(value)

@@ -10,7 +10,7 @@ SPECIAL = [0x1C, 0x1F, 0x3F, 0xDF, 0x5F, 0x7F, 0x9F, 0xBF, 0xFF, 0xF8, 0xF9, 0xF
 
 
 class Items:
-    """Items from a source of chance."""
+    """Items from a source of random numbers."""
 
     def __init__(self, chance):
         self.chance = chance

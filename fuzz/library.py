@@ -77,7 +77,7 @@ class Library:
         status = calls.naltvigo_checker_new_raw(ctypes.c_uint32(order), *self.words(limits), ctypes.byref(checker))
         expect("status of a new checker", OK, status)
         for it in parts:
-            status = calls.naltvigo_checker_take_raw(ctypes.byref(checker), it, ctypes.c_size_t(len(it)), ctypes.byref(used), ctypes.byref(why))
+            status = calls.naltvigo_checker_feed_raw(ctypes.byref(checker), it, ctypes.c_size_t(len(it)), ctypes.byref(used), ctypes.byref(why))
             length += used.value
             if status != MORE:
                 break

@@ -67,7 +67,7 @@ def is_items(found, usual):
 
 
 def is_refused(place, found, usual):
-    """Whether a call returned what one returns that was refused memory."""
+    """Whether a call returned what it returns if memory was refused."""
     return [
         lambda: found == "!19,true",
         lambda: found == "!19,0,0",

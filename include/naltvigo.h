@@ -27,7 +27,7 @@
  *  - New: `keys`, the kinds of keys that maps may have, and the reason NALTVIGO_KEY_KIND.
  *  - NALTVIGO_DEPTH_MAX is 1024.
  *  - naltvigo_reason_name writes a zero byte after the name, and NALTVIGO_NAME_MAX counts it.
- *  - New: naltvigo_next_valid, naltvigo_next_canonical, naltvigo_machine_take (many events in a call),
+ *  - New: naltvigo_next_valid, naltvigo_next_canonical, naltvigo_machine_feed (many events in a call),
  *    naltvigo_status_name, naltvigo_version.
  *  - New: naltvigo_index, naltvigo_item_at, naltvigo_find and naltvigo_put_head, which read and write the items of
  *    canonical bytes, with the statuses 10 to 13.
@@ -116,14 +116,14 @@ enum {
     NALTVIGO_REFUSED = 1,    /* an input is refused; `*refusal` says why and where */
     NALTVIGO_TOO_SMALL = 2,  /* `out` is too small: the result has `*needed` bytes; `out` is unchanged */
     NALTVIGO_NO_MEMORY = 3,  /* out of memory; the offset in `*refusal` is 0 (but see naltvigo_diagnostic and
-                              * naltvigo_checker_take) */
+                              * naltvigo_checker_feed) */
     NALTVIGO_BAD_ORDER = 4,  /* `order` is neither of the two orders */
     NALTVIGO_BAD_LIMITS = 5, /* `depth` or `bytes` is out of range, or `keys` is neither of the two kinds */
     NALTVIGO_DIFFERENT = 6,  /* the two inputs have different values */
     NALTVIGO_EVENT = 7,      /* `events` is full; naltvigo_machine_step: `*event` is the next event */
     NALTVIGO_MORE = 8,       /* the whole input was used, and the item is not complete */
     NALTVIGO_BAD_MACHINE = 9, /* `*machine` is not a machine */
-    NALTVIGO_NOT_THERE = 10,  /* there is no such item, member or key */
+    NALTVIGO_NOT_FOUND = 10,  /* there is no such item, member or key */
     NALTVIGO_WRONG_KIND = 11, /* the item is of another kind */
     NALTVIGO_BAD_HEAD = 12,   /* no head has this kind with this number */
     NALTVIGO_OUT_OF_RANGE = 13 /* the number does not fit the type (naltvigo_values.h) */
@@ -195,7 +195,7 @@ struct naltvigo_refusal {
 
 /* A machine: it reads one item that arrives in parts of any length, and reports its events. The caller owns its 9.1 KiB.
  * It contains no pointer, so it may be copied, moved and stored. A caller may read the fields, but only the calls of a machine
- * may write them. If the caller writes other numbers, naltvigo_machine_take is still safe and stays within the limits, but it
+ * may write them. If the caller writes other numbers, naltvigo_machine_feed is still safe and stays within the limits, but it
  * returns NALTVIGO_BAD_MACHINE, or events that describe no item. */
 struct naltvigo_machine {
     uint64_t bytes;    /* the byte limit */
@@ -284,7 +284,7 @@ uint32_t naltvigo_next_canonical_raw(const uint8_t *in, size_t in_length, uint32
 uint32_t naltvigo_version_raw(void);
 size_t naltvigo_reason_name_raw(uint32_t reason, uint8_t *out, size_t out_length);
 uint32_t naltvigo_machine_start_raw(uint32_t depth, uint64_t bytes, struct naltvigo_machine *machine);
-uint32_t naltvigo_machine_take_raw(struct naltvigo_machine *machine, const uint8_t *in, size_t in_length,
+uint32_t naltvigo_machine_feed_raw(struct naltvigo_machine *machine, const uint8_t *in, size_t in_length,
                                    size_t *used, struct naltvigo_event *events, size_t events_length,
                                    size_t *reported, struct naltvigo_refusal *refusal);
 uint32_t naltvigo_index_raw(const uint8_t *in, size_t in_length, uint32_t order, uint32_t keys,
@@ -341,7 +341,7 @@ uint32_t naltvigo_get_encoded_raw(const struct naltvigo_item *item, uint32_t fou
 uint32_t naltvigo_checker_new_raw(uint32_t order, uint32_t keys, uint32_t depth, uint64_t bytes,
                                   struct naltvigo_checker *checker);
 uint32_t naltvigo_checker_restart_raw(uint32_t order, struct naltvigo_checker *checker);
-uint32_t naltvigo_checker_take_raw(struct naltvigo_checker *checker, const uint8_t *in, size_t in_length,
+uint32_t naltvigo_checker_feed_raw(struct naltvigo_checker *checker, const uint8_t *in, size_t in_length,
                                    size_t *used, struct naltvigo_refusal *refusal);
 uint32_t naltvigo_checker_end_raw(struct naltvigo_checker *checker, struct naltvigo_refusal *refusal);
 uint32_t naltvigo_checker_free_raw(struct naltvigo_checker *checker);
@@ -536,7 +536,7 @@ static inline uint32_t naltvigo_machine_start(const struct naltvigo_options *opt
 }
 
 /*
- * naltvigo_machine_take: reads the next part of an item and reports its events.
+ * naltvigo_machine_feed: reads the next part of an item and reports its events.
  *
  * EVENT if `events` is full. MORE if the whole part was used and the item is not complete. OK if the item is complete and
  * all its events were reported. REFUSED if the input is not a well-formed item within the limits (reasons 2 to 9; offsets
@@ -551,26 +551,26 @@ static inline uint32_t naltvigo_machine_start(const struct naltvigo_options *opt
  *
  * Returns OK, EVENT, MORE, REFUSED, BAD_MACHINE. It allocates no memory.
  */
-static inline uint32_t naltvigo_machine_take(struct naltvigo_machine *machine, const uint8_t *in,
+static inline uint32_t naltvigo_machine_feed(struct naltvigo_machine *machine, const uint8_t *in,
                                              size_t in_length, size_t *used, struct naltvigo_event *events,
                                              size_t events_length, size_t *reported,
                                              struct naltvigo_refusal *refusal) {
     struct naltvigo_refusal ignored;
     const uint8_t none = 0;
     struct naltvigo_event no_event;
-    return naltvigo_machine_take_raw(machine, in_length ? in : &none, in_length, used,
+    return naltvigo_machine_feed_raw(machine, in_length ? in : &none, in_length, used,
                                      events_length ? events : &no_event, events_length, reported,
                                      refusal ? refusal : &ignored);
 }
 
 /*
- * naltvigo_machine_step: as naltvigo_machine_take, for at most one event: EVENT if it was written to `*event`.
+ * naltvigo_machine_step: as naltvigo_machine_feed, for at most one event: EVENT if it was written to `*event`.
  */
 static inline uint32_t naltvigo_machine_step(struct naltvigo_machine *machine, const uint8_t *in,
                                              size_t in_length, size_t *used, struct naltvigo_event *event,
                                              struct naltvigo_refusal *refusal) {
     size_t reported;
-    return naltvigo_machine_take(machine, in, in_length, used, event, 1, &reported, refusal);
+    return naltvigo_machine_feed(machine, in, in_length, used, event, 1, &reported, refusal);
 }
 
 /*
@@ -615,7 +615,7 @@ static inline uint32_t naltvigo_index(const uint8_t *in, size_t in_length,
  * canonical bytes begins at the offset, `*item` is that item. So call naltvigo_check_canonical first. naltvigo_item_at reads
  * the item once, to find its end. It allocates no memory.
  *
- * Returns OK, NOT_THERE. If the status is not OK, `*item` is unchanged.
+ * Returns OK, NOT_FOUND. If the status is not OK, `*item` is unchanged.
  */
 static inline uint32_t naltvigo_item_at(const uint8_t *in, size_t in_length, uint64_t offset,
                                         struct naltvigo_item *item) {
@@ -630,7 +630,7 @@ static inline uint32_t naltvigo_item_at(const uint8_t *in, size_t in_length, uin
  * canonical bytes, in either order of keys, begins at the offset, the status is OK if and only if the map has the key. The
  * call reads the pairs once, up to the key or to one that sorts after it. It allocates no memory.
  *
- * Returns OK, NOT_THERE (also if no item begins at the offset), WRONG_KIND (the item is not a map). If the status is not
+ * Returns OK, NOT_FOUND (also if no item begins at the offset), WRONG_KIND (the item is not a map). If the status is not
  * OK, `*value` is unchanged.
  */
 static inline uint32_t naltvigo_find(const uint8_t *in, size_t in_length, uint64_t map, const uint8_t *key,
@@ -683,7 +683,7 @@ static inline const char *naltvigo_status_name(uint32_t status) {
     case NALTVIGO_EVENT: return "EVENT";
     case NALTVIGO_MORE: return "MORE";
     case NALTVIGO_BAD_MACHINE: return "BAD_MACHINE";
-    case NALTVIGO_NOT_THERE: return "NOT_THERE";
+    case NALTVIGO_NOT_FOUND: return "NOT_FOUND";
     case NALTVIGO_WRONG_KIND: return "WRONG_KIND";
     case NALTVIGO_BAD_HEAD: return "BAD_HEAD";
     case NALTVIGO_OUT_OF_RANGE: return "OUT_OF_RANGE";

@@ -13,7 +13,7 @@
  *     while (status == NALTVIGO_OK || status == NALTVIGO_MORE) {
  *         size_t n = receive(part, sizeof part);
  *         if (n == 0) { status = naltvigo_checker_end(&checker, &why); break; }
- *         status = naltvigo_checker_take(&checker, part, n, &used, &why);
+ *         status = naltvigo_checker_feed(&checker, part, n, &used, &why);
  *         if (status == NALTVIGO_OK) break;   // the item ends in this part, after `used` bytes
  *     }
  *     naltvigo_checker_free(&checker);
@@ -57,7 +57,7 @@ static inline uint32_t naltvigo_checker_restart(uint32_t order, struct naltvigo_
 }
 
 /*
- * naltvigo_checker_take: checks the next part of the item. `*used` becomes the number of its bytes that belong to the item.
+ * naltvigo_checker_feed: checks the next part of the item. `*used` becomes the number of its bytes that belong to the item.
  *
  * OK: the item is complete and canonical, and ends after `*used` bytes. MORE: all bytes were used, and nothing is wrong so far.
  * REFUSED: `*refusal` is what naltvigo_next_canonical reports for all bytes so far. Offsets count from the item's first byte.
@@ -67,14 +67,14 @@ static inline uint32_t naltvigo_checker_restart(uint32_t order, struct naltvigo_
  *
  * Returns OK, MORE, REFUSED (reasons 2 to 10, 14 to 16, 20), NO_MEMORY, BAD_MACHINE.
  */
-static inline uint32_t naltvigo_checker_take(struct naltvigo_checker *checker, const uint8_t *in,
+static inline uint32_t naltvigo_checker_feed(struct naltvigo_checker *checker, const uint8_t *in,
                                              size_t in_length, size_t *used,
                                              struct naltvigo_refusal *refusal) {
     struct naltvigo_refusal ignored;
     const uint8_t none = 0;
     *used = 0;
     if (!checker->memory) return NALTVIGO_BAD_MACHINE;
-    return naltvigo_checker_take_raw(checker, in_length ? in : &none, in_length, used,
+    return naltvigo_checker_feed_raw(checker, in_length ? in : &none, in_length, used,
                                      refusal ? refusal : &ignored);
 }
 

@@ -54,7 +54,7 @@ static inline struct naltvigo_cursor naltvigo_open(const uint8_t *in, size_t in_
 /*
  * The calls below return a cursor at another item. For a cursor without an item they return a cursor with the same status.
  * So it is enough to check the status at the end of a chain of calls. WRONG_KIND: the item is not of the kind that the call
- * needs. NOT_THERE: there is no such member, or no pair with that key. A call reads the whole item that it returns. A look-up
+ * needs. NOT_FOUND: there is no such member, or no pair with that key. A call reads the whole item that it returns. A look-up
  * also reads the members or pairs before this item.
  */
 
@@ -66,7 +66,7 @@ static inline struct naltvigo_cursor naltvigo_first(struct naltvigo_cursor at) {
 }
 
 /* The next member of the array or map around the item. In a map the next member after a key is its value, and the next
- * after a value is the next key, so a pair takes two calls. NOT_THERE after the last one. */
+ * after a value is the next key, so a pair takes two calls. NOT_FOUND after the last one. */
 static inline struct naltvigo_cursor naltvigo_next(struct naltvigo_cursor at) {
     return at.status == NALTVIGO_OK ? naltvigo_cursor_at(at.in, at.length, at.item.end) : at;
 }
@@ -93,7 +93,7 @@ static inline struct naltvigo_cursor naltvigo_at_encoded(struct naltvigo_cursor 
 /* The value of an integer key from 0 to 2^64 - 1. */
 static inline struct naltvigo_cursor naltvigo_at_uint(struct naltvigo_cursor map, uint64_t key) {
     uint8_t bytes[9];
-    struct naltvigo_writer writer = naltvigo_write_to(bytes, sizeof bytes);
+    struct naltvigo_writer writer = naltvigo_writer_to(bytes, sizeof bytes);
     naltvigo_put_uint(&writer, key);
     return naltvigo_at_encoded(map, bytes, writer.needed);
 }
@@ -101,7 +101,7 @@ static inline struct naltvigo_cursor naltvigo_at_uint(struct naltvigo_cursor map
 /* The value of an integer key from -2^63 to 2^63 - 1. */
 static inline struct naltvigo_cursor naltvigo_at_int(struct naltvigo_cursor map, int64_t key) {
     uint8_t bytes[9];
-    struct naltvigo_writer writer = naltvigo_write_to(bytes, sizeof bytes);
+    struct naltvigo_writer writer = naltvigo_writer_to(bytes, sizeof bytes);
     naltvigo_put_int(&writer, key);
     return naltvigo_at_encoded(map, bytes, writer.needed);
 }
@@ -119,17 +119,17 @@ static inline struct naltvigo_cursor naltvigo_at_long_text(struct naltvigo_curso
 }
 
 /* The value of a text key of `length` bytes. */
-static inline struct naltvigo_cursor naltvigo_at_text_of(struct naltvigo_cursor map, const char *key, size_t length) {
+static inline struct naltvigo_cursor naltvigo_at_text_n(struct naltvigo_cursor map, const char *key, size_t length) {
     uint8_t bytes[64 + 9];
-    struct naltvigo_writer writer = naltvigo_write_to(bytes, sizeof bytes);
+    struct naltvigo_writer writer = naltvigo_writer_to(bytes, sizeof bytes);
     if (length > 64) return naltvigo_at_long_text(map, key, length);
-    naltvigo_put_text_of(&writer, key, length);
+    naltvigo_put_text_n(&writer, key, length);
     return naltvigo_at_encoded(map, bytes, writer.needed);
 }
 
 /* The value of a text key that ends at a zero byte. */
 static inline struct naltvigo_cursor naltvigo_at_text(struct naltvigo_cursor map, const char *key) {
-    return naltvigo_at_text_of(map, key, strlen(key));
+    return naltvigo_at_text_n(map, key, strlen(key));
 }
 
 /* The content of a tag with this number. WRONG_KIND if the item is not a tag, or a tag with another number. */

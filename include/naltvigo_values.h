@@ -6,7 +6,7 @@
  *
  *     uint8_t items[64], bytes[64];
  *     size_t length;
- *     struct naltvigo_writer writer = naltvigo_write_to(items, sizeof items);
+ *     struct naltvigo_writer writer = naltvigo_writer_to(items, sizeof items);
  *     naltvigo_put_map(&writer);                              // the keys in any order, no count
  *     naltvigo_put_text(&writer, "Fun"); naltvigo_put_bool(&writer, 1);
  *     naltvigo_put_int(&writer, 4); naltvigo_put_int(&writer, -2);

@@ -35,14 +35,14 @@ struct naltvigo_writer {
 };
 
 /*
- * naltvigo_write_to: a writer that appends to `out`.
+ * naltvigo_writer_to: a writer that appends to `out`.
  *
  * Each put call appends an item, or part of one, and returns nothing. Check `status` after all of them. TOO_SMALL means that
- * `out` is too small: start again with `needed` bytes. Any other failure (BAD_HEAD, NOT_THERE) is an error in what was put.
+ * `out` is too small: start again with `needed` bytes. Any other failure (BAD_HEAD, NOT_FOUND) is an error in what was put.
  * `status` has the first of these, even if TOO_SMALL came before it. `out` may be null: then nothing is written, and `needed`
  * counts the bytes of all items. A copy of a writer continues from where it was copied.
  */
-static inline struct naltvigo_writer naltvigo_write_to(uint8_t *out, size_t out_length) {
+static inline struct naltvigo_writer naltvigo_writer_to(uint8_t *out, size_t out_length) {
     static uint8_t none;
     struct naltvigo_writer writer;
     writer.out = out ? out : &none;
@@ -90,13 +90,13 @@ static inline void naltvigo_put_bytes(struct naltvigo_writer *writer, const void
 }
 
 /* A text string: `length` bytes of UTF-8. naltvigo_finish refuses bytes that are not UTF-8. */
-static inline void naltvigo_put_text_of(struct naltvigo_writer *writer, const char *text, size_t length) {
+static inline void naltvigo_put_text_n(struct naltvigo_writer *writer, const char *text, size_t length) {
     naltvigo_writer_string(writer, NALTVIGO_TEXT, text, length);
 }
 
 /* A text string that ends at a zero byte. */
 static inline void naltvigo_put_text(struct naltvigo_writer *writer, const char *text) {
-    naltvigo_put_text_of(writer, text, strlen(text));
+    naltvigo_put_text_n(writer, text, strlen(text));
 }
 
 /* A simple value, 0 to 23 or 32 to 255. The numbers 24 to 31 do not exist: the writer fails with BAD_HEAD. */
@@ -129,15 +129,15 @@ static inline void naltvigo_put_end(struct naltvigo_writer *writer) {
 }
 
 /* An array of `count` items, or a map of `pairs` pairs, which are put next. No naltvigo_put_end follows them. */
-static inline void naltvigo_put_array_of(struct naltvigo_writer *writer, uint64_t count) {
+static inline void naltvigo_put_array_n(struct naltvigo_writer *writer, uint64_t count) {
     naltvigo_writer_head(writer, NALTVIGO_ARRAY, count);
 }
-static inline void naltvigo_put_map_of(struct naltvigo_writer *writer, uint64_t pairs) {
+static inline void naltvigo_put_map_n(struct naltvigo_writer *writer, uint64_t pairs) {
     naltvigo_writer_head(writer, NALTVIGO_MAP, pairs);
 }
 
 /* An item in canonical bytes, from naltvigo_finish or naltvigo_get_encoded. If the bytes are not exactly one item, they would
- * change the meaning of the items after them: so the writer fails with NOT_THERE, and nothing is put. */
+ * change the meaning of the items after them: so the writer fails with NOT_FOUND, and nothing is put. */
 static inline void naltvigo_put_encoded(struct naltvigo_writer *writer, const uint8_t *bytes, size_t length) {
     const uint8_t none = 0;
     writer->status = naltvigo_writer_encoded_raw(length ? bytes : &none, length, writer->out, writer->out_length,
@@ -154,7 +154,7 @@ static inline void naltvigo_put_encoded(struct naltvigo_writer *writer, const ui
  * surplus end, equal keys, a text that is not UTF-8. The offset of the refusal is an offset in the bytes that the writer put,
  * before they are sorted, and not in `out`.
  *
- * Returns OK, TOO_SMALL, REFUSED (reasons 1 to 13, 20), NO_MEMORY, BAD_ORDER, BAD_LIMITS, BAD_HEAD, NOT_THERE.
+ * Returns OK, TOO_SMALL, REFUSED (reasons 1 to 13, 20), NO_MEMORY, BAD_ORDER, BAD_LIMITS, BAD_HEAD, NOT_FOUND.
  */
 static inline uint32_t naltvigo_finish(const struct naltvigo_writer *writer, const struct naltvigo_options *options,
                                        uint8_t *out, size_t out_length, size_t *needed,

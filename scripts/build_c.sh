@@ -1,7 +1,7 @@
 #!/usr/bin/env bash
 # Makes the library for C and its shared object: scripts/build_c.sh [--target TRIPLE] [FOLDER [ARCHIVE]]
 #
-# FOLDER (dist without one, dist-aarch64 for aarch64) gets the headers, lib/libnaltvigo.a, lib/libnaltvigo.so with
+# FOLDER (default: dist, for aarch64 dist-aarch64) gets the headers, lib/libnaltvigo.a, lib/libnaltvigo.so with
 # its version, and the files for pkg-config and CMake, in lib/pkgconfig and lib/cmake. Both libraries export only
 # naltvigo_*. Two runs make equal bytes. ARCHIVE is what an earlier run compiled, crates/naltvigo/out/libnaltvigo.a; without
 # one scripts/compile_library.sh makes it, for which the kit's rt must be on the path. ARCHIVE can also be the assembly,

@@ -1,7 +1,7 @@
 #!/usr/bin/env bash
 # Makes the page that inspects CBOR as one HTML file: scripts/build_page.sh [FILE]
 #
-# FILE (packages/inspector.html without one) opens from a disk and from any web server, and needs no other file. It contains
+# FILE (default: packages/inspector.html) opens from a disk and from any web server, and needs no other file. It contains
 # web/, the package for JavaScript and both modules of bindings/js/wasm, as scripts/build_web.sh makes them.
 set -euo pipefail
 . "$(dirname "${BASH_SOURCE[0]}")/lib/options.sh"

@@ -1,7 +1,7 @@
 #!/usr/bin/env bash
 # Makes the library as WebAssembly: scripts/build_web.sh [FOLDER]
 #
-# FOLDER (bindings/js/wasm without one) gets naltvigo64.wasm, with 64-bit memory and vectors, and naltvigo32.wasm, the same
+# FOLDER (default: bindings/js/wasm) gets naltvigo64.wasm, with 64-bit memory and vectors, and naltvigo32.wasm, the same
 # lowered to 32-bit memory, without vectors. It needs the kit's rt on the path, libraries as `rt ci` leaves them, and
 # wasm-opt: Debian's binaryen. Two runs make equal bytes. NALTVIGO_MODULES is a folder of scripts/modules.sh, whose module is used.
 #
@@ -19,7 +19,7 @@ clang=$kit/toolchain/bin/clang
 scratch=$(mktemp -d)
 trap 'rm -rf "$scratch"' EXIT
 fail() { echo "build_web.sh: $*" >&2; exit 1; }
-command -v wasm-opt >/dev/null || fail "wasm-opt is not there: Debian's binaryen has it"
+command -v wasm-opt >/dev/null || fail "wasm-opt is missing: Debian's binaryen has it"
 mkdir -p "$folder"
 
 # ---- the LLVM module, retargeted

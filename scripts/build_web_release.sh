@@ -1,7 +1,7 @@
 #!/usr/bin/env bash
 # Makes the library as WebAssembly as the kit does, for a release: scripts/build_web_release.sh LIBRARIES [FOLDER]
 #
-# FOLDER (bindings/js/wasm without one) gets naltvigo64.wasm and naltvigo32.wasm as build_web.sh makes them, without vectors;
+# FOLDER (default: bindings/js/wasm) gets naltvigo64.wasm and naltvigo32.wasm as build_web.sh makes them, without vectors;
 # but the verdict of the proof, which is the last line, names wasm64. For this, one attribute makes the kit's libc import its
 # heap on wasm64 (platform/libc_on_wasm64.patch), and all that uses libc is proved again: the kit's libraries from libc to std,
 # and ours. They are stored in LIBRARIES: about 90 minutes, and at most 13 GB. What an earlier run left there is used. The
@@ -21,7 +21,7 @@ folder=$(realpath "$folder")
 scratch=$(mktemp -d)
 trap 'rm -rf "$scratch"' EXIT
 for tool in patch wasm-opt; do
-    command -v $tool >/dev/null || { echo "build_web_release.sh: $tool is not there" >&2; exit 1; }
+    command -v $tool >/dev/null || { echo "build_web_release.sh: $tool is missing" >&2; exit 1; }
 done
 
 is_built() { [ -e "$libraries/$1.rlib/format" ]; }

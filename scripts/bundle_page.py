@@ -99,7 +99,7 @@ def modules():
     encoded = {}
     for path in (WASM / "naltvigo64.wasm", WASM / "naltvigo32.wasm"):
         if not path.exists():
-            fail(f"{path.relative_to(ROOT)} is not there; scripts/build_web.sh makes it")
+            fail(f"{path.relative_to(ROOT)} is missing; scripts/build_web.sh makes it")
         encoded[path.name] = base64.b64encode(path.read_bytes()).decode("ascii")
     return encoded
 

@@ -1,11 +1,11 @@
 #!/usr/bin/env python3
-"""Has the prover refuse the wrong bodies of crates/NAME/wrong-bodies/, many in one check:
+"""Checks that the prover refuses the wrong bodies of crates/NAME/wrong-bodies/, many in one check:
 
     scripts/edits.py [--proved] NAME ..    those of these crates
     scripts/edits.py [--proved] --all      those of all crates: up to two processor hours
     scripts/edits.py [--proved] --sample   those of crates that changed in the last 20 commits, and of a quarter of the
-                                           others, as far as they are at most 150: the number of commits determines
-                                           which come first, so that further commits try the others
+                                           others, but at most 150. The number of commits determines which come
+                                           first, so later commits try the others
     scripts/edits.py --apply-only [NAME ..]  proves nothing: whether each edit there, and in must-fail/, can be applied
 
 An edit that is still proved, or that cannot be applied or compiled, fails, and the status is 1. A check begins with what

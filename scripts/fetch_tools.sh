@@ -8,7 +8,7 @@ set -euo pipefail
 . "$(dirname "${BASH_SOURCE[0]}")/lib/options.sh"
 take_options 1 "$@"
 [ ${#words[@]} = 1 ] || { echo 'fetch_tools.sh: which FOLDER? --help says more' >&2; exit 2; }
-command -v apt-get >/dev/null || { echo 'fetch_tools.sh: apt-get is not there' >&2; exit 1; }
+command -v apt-get >/dev/null || { echo 'fetch_tools.sh: apt-get is missing' >&2; exit 1; }
 mkdir -p "$1"
 folder=$(cd "$1" && pwd)
 scratch=$(mktemp -d)

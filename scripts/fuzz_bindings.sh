@@ -4,7 +4,7 @@
 # libFuzzer of Debian's clang runs fuzz/coverage/sqlite.c on the extension for SQLite and fuzz/coverage/python.c on that for
 # Python, with AddressSanitizer and UndefinedBehaviorSanitizer, and fuzz/coverage/rust on the crate for Rust, each for SECONDS
 # (10), from the inputs in fuzz/corpus. NAMES, if set, has those that run. With KEEP=1 what reaches new code is added there, as
-# few files as possible. DIST has the library for C; without one it is built. The last line begins 'fuzz: all well' and names
+# few files as possible. DIST has the library for C; if it is left out, it is built. The last line begins 'fuzz: all well' and names
 # what was left out; else the status is not 0.
 set -euo pipefail
 . "$(dirname "${BASH_SOURCE[0]}")/lib/options.sh"

@@ -1,12 +1,11 @@
 #!/usr/bin/env bash
 # Installs the program and the library for C: scripts/install.sh [PREFIX]
 #
-# PREFIX (/usr/local for root, else ~/.local) gets bin/cborc, its man page and completions, the headers, both
-# libraries, the files for pkg-config and CMake, and a list of all that in share/naltvigo, by which scripts/uninstall.sh
-# removes it. Both are proved and built first, which needs the kit's rt, unless PROGRAM and DIST name a program and a folder
-# of build_c.sh. With PROGRAM=none only the library is installed. With DESTDIR everything is installed below that
-# folder, with the paths that it will have at PREFIX. GATE_LOG names the log of .ci/run: then the transcript of its proofs is
-# installed with the documents.
+# PREFIX (/usr/local for root, else ~/.local) gets bin/cborc, its man page and completions, the headers, both libraries, the
+# files for pkg-config and CMake, and a list of these files in share/naltvigo, with which scripts/uninstall.sh removes them.
+# Both are proved and built first, which needs the kit's rt, unless PROGRAM and DIST name a program and a folder of build_c.sh.
+# With PROGRAM=none only the library is installed. With DESTDIR everything is installed below that folder, with the paths that
+# it will have at PREFIX. GATE_LOG names the log of .ci/run: then the transcript of its proofs is installed with the documents.
 #
 # With DATABASES, one or both of the words sqlite and postgresql, their extensions are built and installed too, as the
 # README of each in bindings/ says. The extension for PostgreSQL is installed where its pg_config (PG_CONFIG) says, not below PREFIX.

@@ -1,7 +1,7 @@
 #!/usr/bin/env bash
 # Makes the packages: scripts/package.sh [--target TRIPLE] [FOLDER]
 #
-# FOLDER (packages without one) gets naltvigo-VERSION-linux-MACHINE.tar.gz, whose folders belong below any prefix, the Debian
+# FOLDER (default: packages) gets naltvigo-VERSION-linux-MACHINE.tar.gz, whose folders belong below any prefix, the Debian
 # packages of share/debian/control if dpkg-deb is installed, and the wheel for Python. Two runs on equal files and one commit
 # make equal bytes. Program and library are assembled from portable/, so that they run on each processor of the machine, or are
 # given by PROGRAM and DIST, as with install.sh. If portable/ has no assembly they are built as by install.sh, and for the target
@@ -59,7 +59,7 @@ echo "$folder/$name.tar.gz"
 if command -v dpkg-deb >/dev/null; then
     (make_debian "$scratch/$name" "$folder")
 else
-    echo 'no Debian packages: dpkg-deb is not there' >&2
+    echo 'no Debian packages: dpkg-deb is not installed' >&2
 fi
 
 # from the assembly in portable/ if it exists, so that its label for plain x86-64 is true

@@ -1,7 +1,7 @@
 #!/usr/bin/env python3
 """Makes the archive of the Go module: scripts/package_go.py [FOLDER]
 
-FOLDER (packages without one) gets naltvigo-go-VERSION.zip, with the folder naltvigo@vVERSION: the package, the headers, the
+FOLDER (default: packages) gets naltvigo-go-VERSION.zip, with the folder naltvigo@vVERSION: the package, the headers, the
 assembly and the licences. Two runs make equal bytes. Its path is printed.
 """
 

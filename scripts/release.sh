@@ -1,7 +1,7 @@
 #!/usr/bin/env bash
 # Makes a release: scripts/release.sh [FOLDER]
 #
-# FOLDER (packages without one) gets the source archive, archives of the library for C for each target, what package.sh makes for
+# FOLDER (default: packages) gets the source archive, archives of the library for C for each target, what package.sh makes for
 # x86-64 and aarch64, wheels for riscv64 and musl, the sdist for Python, the crate, the npm package, the page, the Go module, an
 # SBOM and the transcript, and SHA256SUMS of all. Everything but the npm package and the page is made from the assembly. Two runs on one
 # commit make equal bytes. It refuses changes that are not committed, and assembly in portable/ that is not made from this

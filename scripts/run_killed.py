@@ -44,7 +44,7 @@ def traced(words, folder):
 
 def kill_at(words, folder, stops):
     """Kills a run after this number of stops; a system call has one before and one after it. Returns whether the run
-    came so far."""
+    reached this stop."""
     child = traced(words, folder)
     _, status = os.waitpid(child.pid, 0)
     while stops and os.WIFSTOPPED(status):
@@ -72,11 +72,11 @@ def system_calls(words, folder):
 
 
 def look(place, name, out, others, before, after):
-    """What a killed run left: whether OUT was written, and the number of new files, which nobody may read who may not
-    read OUT."""
+    """What a killed run left: whether OUT was written, and the number of new files. A user who cannot read OUT
+    cannot read them."""
     found = place.get(out)
     if found not in (before, after):
-        faults.append(f"{name}: OUT holds neither what was there nor what is to be")
+        faults.append(f"{name}: OUT has neither its old content nor its new content")
     left = set(os.listdir(place.folder)) - {out, *others}
     for it in left:
         is_named = re.fullmatch(re.escape(out) + r"\.[0-9a-f]{16}\.tmp", it)
@@ -116,7 +116,7 @@ def kills(place):
 
 
 def kills_of_long_runs(place):
-    """Runs killed while they write much: when the new file exists, when it has something, when it is complete."""
+    """Runs killed while they write a large file: when the new file exists, when it is not empty, when it is complete."""
     count = 32_000_000 // len(CLAIMS)
     rows = [(["canon", "--bytes", "40000000"], b"\x5a\x02\x00\x00\x00" + bytes(1 << 25)), (["canon", "--seq"], CLAIMS * count)]
     for words, content in rows:

@@ -4,8 +4,9 @@
     scripts/run_timed.py [PROGRAM]
 
 1 MiB of chosen keys takes at most five times as long as 1 MiB of harmless ones: integers, or the same bytes as values. 1 KiB takes
-at most a millisecond more than its check. Other processes may run as well. So a time is the processor time of the program, the least of some runs, and what is
-not fair is measured again, next to what it is compared with. run_program.py does this too.
+at most a millisecond more than its check. Other processes may run as well. So a time is the processor time of the program, the
+least of some runs. A time over its limit is measured again, together with the time that it is compared with. run_program.py does
+this too.
 """
 
 import os
@@ -66,7 +67,7 @@ def times(item, turns):
 
 
 def unfair(compare):
-    """What is unfair each time, of up to three times: `compare` takes a number of runs, and lists what is unfair by name."""
+    """What is over its limit in each of up to three comparisons. `compare` gets the number of runs, and returns the names of these."""
     found = compare(2)
     for turns in (5, 10):
         if found:

@@ -1,7 +1,7 @@
 #!/usr/bin/env bash
 # Tests the library for C on aarch64 Linux, under qemu: scripts/test_aarch64.sh [FOLDER]
 #
-# FOLDER is as `build_c.sh --target aarch64-unknown-linux-gnu` makes it; without one it is built. The programs of c/ run, with the
+# FOLDER is as `build_c.sh --target aarch64-unknown-linux-gnu` makes it; if it is left out, it is built. The programs of c/ run, with the
 # archive and with the shared object: the tables, items and values, a machine, each request for memory refused, threads, the
 # stack, the examples. With LIBRARY, the x86-64 libnaltvigo.so, random calls are compared with it. The wheel and the
 # packages are made; with FETCHED_TOOLS, a folder of scripts/fetch_tools.sh, the wheel is tested in Python, and the crate
@@ -19,9 +19,9 @@ cc=aarch64-linux-gnu-gcc
 c=$root/c
 
 for tool in $cc aarch64-linux-gnu-objcopy qemu-aarch64-static; do
-    command -v $tool >/dev/null || { say "not tested: $tool is not there (Debian: gcc-aarch64-linux-gnu, libc6-dev-arm64-cross, qemu-user-static)"; exit 0; }
+    command -v $tool >/dev/null || { say "not tested: $tool is missing (Debian: gcc-aarch64-linux-gnu, libc6-dev-arm64-cross, qemu-user-static)"; exit 0; }
 done
-[ -e /usr/aarch64-linux-gnu/lib/libc.so.6 ] || { say 'not tested: the C library of aarch64 is not there (Debian: libc6-dev-arm64-cross)'; exit 0; }
+[ -e /usr/aarch64-linux-gnu/lib/libc.so.6 ] || { say 'not tested: the C library of aarch64 is missing (Debian: libc6-dev-arm64-cross)'; exit 0; }
 qemu=(qemu-aarch64-static -L /usr/aarch64-linux-gnu)
 
 dist=${1:-$scratch/dist}

@@ -1,7 +1,7 @@
 #!/usr/bin/env bash
 # Tests the packages for Python and Rust: scripts/test_bindings.sh [FOLDER]
 #
-# FOLDER has the library for C, as build_c.sh makes it; without one it is built. test_python.sh tests the package for Python;
+# FOLDER has the library for C, as build_c.sh makes it; if it is left out, it is built. test_python.sh tests the package for Python;
 # cargo tests the crate offline. python3 is needed; the last line of each says 'all well' and names what else was missing.
 # Otherwise the status is not 0.
 set -euo pipefail

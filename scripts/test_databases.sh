@@ -1,7 +1,7 @@
 #!/usr/bin/env bash
 # Tests the extensions for SQLite and PostgreSQL: scripts/test_databases.sh [DIST]
 #
-# DIST has the library for C, as build_c.sh makes it; without one it is built. Each extension is built as its README says,
+# DIST has the library for C, as build_c.sh makes it; if it is left out, it is built. Each extension is built as its README says,
 # and tested: the README's commands, tables with constraints and indexes, random items against the definitions (COUNT of
 # them, 10000 by default), some planted bugs, and in PostgreSQL a scan of 1,000,000 rows (ROWS) by two workers and by one process,
 # a dump that is restored, and memory that is refused. The server is the test's own, on a socket in a folder of its own, run by
@@ -135,7 +135,7 @@ test_memory() {
     command -v prlimit >/dev/null || { missing+=('memory refused in PostgreSQL (prlimit, util-linux)'); return; }
     as_user psql -Xq contrib_regression <"$root/bindings/postgresql/test/memory.sql" >"$scratch/log" 2>&1 || fail 'refused memory'
     diff "$root/bindings/postgresql/test/memory.out" "$scratch/log" || fail 'refused memory'
-    say 'PostgreSQL: refused memory is an error, the session goes on, and no memory stays allocated'
+    say 'PostgreSQL: refused memory is an error, the session continues, and no memory stays allocated'
 }
 
 # What a sender chooses costs no more than other bytes.

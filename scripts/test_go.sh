@@ -10,7 +10,7 @@ set -euo pipefail
 . "$(dirname "${BASH_SOURCE[0]}")/lib/testing.sh"
 take_options 1 "$@"
 begin_tests Go
-command -v go >/dev/null || { say 'not tested: Go is not there (Debian: golang-go)'; exit 0; }
+command -v go >/dev/null || { say 'not tested: Go is not installed (Debian: golang-go)'; exit 0; }
 # the build cache does not see what assembly includes
 export GOCACHE=$scratch/cache GOFLAGS=-mod=mod GOPROXY=off CGO_ENABLED=1
 if [ -n "${1:-}" ]; then

@@ -68,7 +68,7 @@ def times_in_parts(program, folder):
 def main():
     program = str(Path(sys.argv[1]).resolve())
     if not shutil.which("valgrind"):
-        print("instructions: not counted: valgrind is not there")
+        print("instructions: not counted: valgrind is not installed")
         return 0
     with tempfile.TemporaryDirectory() as folder:
         of_a_sequence = times_of_a_sequence(program, folder)

@@ -90,11 +90,11 @@ def limit_memory():
 
 
 def outcome(binding, folder, scratch, tests, seconds):
-    """'builds not', 'fails' or 'passes', and the seconds of the tests. A bug without an end fails after these seconds."""
+    """'does not build', 'fails' or 'passes', and the seconds of the tests. A bug without an end fails after these seconds."""
     words = {**os.environ, "CARGO_TARGET_DIR": f"{scratch}/target", "CARGO_PROFILE_TEST_OPT_LEVEL": "0", "NALTVIGO_SQLITE": f"{folder}/naltvigo_sqlite"}
     build, run = commands(binding, tests)
     if subprocess.run(build, cwd=folder, env=words, capture_output=True).returncode:
-        return "builds not", 0
+        return "does not build", 0
     begin = time.monotonic()
     quiet = {"stdout": subprocess.DEVNULL, "stderr": subprocess.DEVNULL}
     running = subprocess.Popen(run, cwd=folder, env=words, **quiet, start_new_session=True, preexec_fn=limit_memory)

@@ -2,7 +2,7 @@
 # Tests what portable/ builds: scripts/test_portable.sh [LIBRARY [PART ..]]
 #
 # For each target: Make assembles the library, the programs of c/ are linked with it and run, and random calls return what
-# LIBRARY returns, a libnaltvigo.so for this machine (without one, what portable/ builds natively). On Linux the program
+# LIBRARY returns, a libnaltvigo.so for this machine (default: what portable/ builds natively). On Linux the program
 # runs the rows of the conformance tables too. Without a PART all are tested; one takes less than ten minutes of one processor:
 #
 #     native      x86-64 by gcc, clang and musl-gcc; CMake; Make's installation
@@ -161,7 +161,7 @@ link_only() { # TRIPLE LINKER ..
     say "$1: assembled by clang, linked by $2, exports the header's names; not run"
 }
 
-# ---- targets that are not there, and compilers that cannot assemble
+# ---- targets that do not exist, and compilers that cannot assemble
 
 refuses() { # SENTENCE COMMAND ..
     ! "${@:2}" >"$scratch/log" 2>&1 || fail "${*:2} succeeds"
@@ -189,7 +189,7 @@ test_refusals() {
         refuses "$no_target" "${cmake[@]}" "$scratch/refused/m32" -DCMAKE_C_COMPILER=gcc -DCMAKE_C_FLAGS=-m32 -DCMAKE_TRY_COMPILE_TARGET_TYPE=STATIC_LIBRARY
         refuses "$no_assembler" "${cmake[@]}" "$scratch/refused/only-c" "-DCMAKE_C_COMPILER=$scratch/only-c"
     fi
-    say 'a target that is not there, and a compiler that cannot assemble, are refused in one sentence'
+    say 'a target that does not exist, and a compiler that cannot assemble, are refused in one sentence'
 }
 
 # ---- CMake

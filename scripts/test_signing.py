@@ -4,10 +4,11 @@
     scripts/test_signing.py PROGRAM DIST
 
 PROGRAM is the built cborc, DIST the library for C as scripts/build_c.sh makes it. Each document gets a new folder. Its
-blocks of shell run in order, in one bash with `set -euo pipefail`. A block of text after a block of shell is what that one
-prints; a block of shell without one prints nothing. A block in another language is a file, and its first line has the
-file's name. The packages for Python, JavaScript and Rust are those of bindings/. The last line begins 'signing: ok' and
-names the tools that are missing, whose blocks did not run. If something is wrong, the status is not 0.
+blocks of shell run in order, in one bash with `set -euo pipefail`. A block of text after a block of shell is the output
+of that block. A block of shell that no block of text follows prints nothing. A block in another language is a file, and
+its first line has the file's name. The packages for Python, JavaScript and Rust are those of bindings/. The last line
+begins 'signing: ok' and names the tools that are missing, whose blocks did not run. If something is wrong, the status is
+not 0.
 
 No document, man page or help text may show `canon` in a pipe: a refusal would be hashed or signed as zero bytes. The one
 pipe that SIGNING.md shows as a warning is in quotes.

@@ -15,7 +15,7 @@ else
 fi
 prefix=${1:-$prefix}
 list=$prefix/share/naltvigo/files
-[ -e "$list" ] || { echo "uninstall: nothing is installed below $prefix: $list is not there" >&2; exit 1; }
+[ -e "$list" ] || { echo "uninstall: nothing is installed below $prefix: $list does not exist" >&2; exit 1; }
 mapfile -t files <"$list"
 for file in "${files[@]}"; do
     rm -f "$prefix/$file"

@@ -41,16 +41,16 @@ func NewChecker(options *Options) (*Checker, error) {
 	return &Checker{state}, nil
 }
 
-// Take consumes bytes of the item from the start of a part, and returns their number. It is less than the part's length only
+// Feed consumes bytes of the item from the start of a part, and returns their number. It is less than the part's length only
 // if the item is complete or refused. A part of no bytes is allowed. It does not mean that the item ends.
-func (checker *Checker) Take(part []byte) (int, error) {
+func (checker *Checker) Feed(part []byte) (int, error) {
 	state := checker.state
 	if state.trailing {
 		return 0, state.refuseTrailing()
 	}
 	var used C.size_t
 	var why C.struct_naltvigo_refusal
-	status := C.naltvigo_checker_take(&state.handle, first(part), C.size_t(len(part)), &used, &why)
+	status := C.naltvigo_checker_feed(&state.handle, first(part), C.size_t(len(part)), &used, &why)
 	state.consumed += uint64(used)
 	state.complete = status == C.NALTVIGO_OK
 	if status == C.NALTVIGO_MORE {
@@ -59,10 +59,10 @@ func (checker *Checker) Take(part []byte) (int, error) {
 	return int(used), outcome(status, &why, nil, widest)
 }
 
-// Write is Take for exactly one item: a byte after it is refused as Trailing, and after that each call returns this refusal. The
+// Write is Feed for exactly one item: a byte after it is refused as Trailing, and after that each call returns this refusal. The
 // number is the number of the part's bytes that belong to the item.
 func (checker *Checker) Write(part []byte) (int, error) {
-	used, err := checker.Take(part)
+	used, err := checker.Feed(part)
 	if err == nil && used < len(part) {
 		err = checker.state.refuseTrailing()
 	}

@@ -56,7 +56,7 @@ func inParts(t *testing.T, checker *Checker, input []byte, ends []int, prefixes 
 	from := 0
 	for _, end := range ends {
 		wanted, consumed := prefixes[end], end
-		used, err := checker.Take(input[from:end])
+		used, err := checker.Feed(input[from:end])
 		switch {
 		case wanted.why.Reason != 0:
 			consumed = int(wanted.why.Consumed)
@@ -200,11 +200,11 @@ func TestARefusalStays(t *testing.T) {
 
 func TestBytesAfterAnItem(t *testing.T) {
 	checker := newChecker(t, nil)
-	if used, err := checker.Take([]byte("\x82\x01\x02\x03")); used != 3 || err != nil || !checker.Complete() {
+	if used, err := checker.Feed([]byte("\x82\x01\x02\x03")); used != 3 || err != nil || !checker.Complete() {
 		t.Error(used, err)
 	}
-	// Take leaves them
-	if used, err := checker.Take([]byte{3}); used != 0 || err != nil || checker.End() != nil {
+	// Feed leaves them
+	if used, err := checker.Feed([]byte{3}); used != 0 || err != nil || checker.End() != nil {
 		t.Error(used, err)
 	}
 	if used, err := checker.Write(nil); used != 0 || err != nil {
@@ -214,7 +214,7 @@ func TestBytesAfterAnItem(t *testing.T) {
 		used, err := checker.Write([]byte{3})
 		expectRefused(t, "Write", err, refusal(Trailing, 3, 3))
 		expectRefused(t, "End", checker.End(), refusal(Trailing, 3, 3))
-		if _, err := checker.Take(nil); used != 0 || err == nil || !checker.Complete() {
+		if _, err := checker.Feed(nil); used != 0 || err == nil || !checker.Complete() {
 			t.Error(used, err)
 		}
 	}

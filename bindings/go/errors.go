@@ -54,7 +54,7 @@ func (refused *RefusedSide) Error() string {
 // Unwrap returns the *Refused.
 func (refused *RefusedSide) Unwrap() error { return refused.Cause }
 
-// FieldError is the error of GetInt64, GetUint64, GetBool, GetText and GetBytes. It has the key. It wraps ErrNotThere,
+// FieldError is the error of GetInt64, GetUint64, GetBool, GetText and GetBytes. It has the key. It wraps ErrNotFound,
 // ErrWrongKind, ErrOutOfRange, or the error of the look-up: errors.Is finds them.
 type FieldError struct {
 	Key   Value
@@ -78,8 +78,8 @@ var (
 	ErrMemory = errors.New("naltvigo: out of memory")
 	// ErrOptions says that an option is out of range.
 	ErrOptions = errors.New("naltvigo: an option is out of range")
-	// ErrNotThere says that a map has no such key, or an array no such member.
-	ErrNotThere = errors.New("naltvigo: no such key or member")
+	// ErrNotFound says that a map has no such key, or an array no such member.
+	ErrNotFound = errors.New("naltvigo: no such key or member")
 	// ErrWrongKind says that an item or value is of another kind.
 	ErrWrongKind = errors.New("naltvigo: an item of another kind")
 	// ErrOutOfRange says that an integer does not fit its type.
@@ -105,8 +105,8 @@ func failure(status C.uint32_t) error {
 		return ErrMemory
 	case C.NALTVIGO_BAD_ORDER, C.NALTVIGO_BAD_LIMITS:
 		return ErrOptions
-	case C.NALTVIGO_NOT_THERE:
-		return ErrNotThere
+	case C.NALTVIGO_NOT_FOUND:
+		return ErrNotFound
 	case C.NALTVIGO_WRONG_KIND:
 		return ErrWrongKind
 	case C.NALTVIGO_BAD_MACHINE:

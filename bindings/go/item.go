@@ -98,7 +98,7 @@ func (item Item) Tag() (uint64, Item, error) {
 	return item.number, content, err
 }
 
-// Get returns the value of a key in the map that the item is, or ErrNotThere. It reads the pairs before this key.
+// Get returns the value of a key in the map that the item is, or ErrNotFound. It reads the pairs before this key.
 func (item Item) Get(key Value) (Item, error) {
 	with := widest
 	with.Order = item.order
@@ -138,7 +138,7 @@ func field[T any](item Item, key Value, as func(Item) (T, error)) (T, error) {
 	return value, err
 }
 
-// At returns the member of an array at an index, or ErrNotThere. It reads the members before this member.
+// At returns the member of an array at an index, or ErrNotFound. It reads the members before this member.
 func (item Item) At(index int) (Item, error) {
 	if item.kind != KindArray {
 		return Item{}, ErrWrongKind
@@ -150,7 +150,7 @@ func (item Item) At(index int) (Item, error) {
 		}
 		index--
 	}
-	return Item{}, ErrNotThere
+	return Item{}, ErrNotFound
 }
 
 // Members is an iterator over the items in an array, a map or a tag.

@@ -52,7 +52,7 @@ func TestItem(t *testing.T) {
 		_, err = item.GetInt64(Text("max"))
 		expect(t, "int64 of 2^64-1", 0, err, 0, ErrOutOfRange)
 		_, err = item.GetText(Int(2))
-		expect(t, "no such key", 0, err, 0, ErrNotThere)
+		expect(t, "no such key", 0, err, 0, ErrNotFound)
 		_, err = item.GetText(Text("\xff"))
 		if err == nil {
 			t.Error("a key that is no UTF-8")
@@ -80,8 +80,8 @@ func TestFieldErrors(t *testing.T) {
 		cause  error
 		wanted string
 	}{
-		{textOf(Int(2)), ErrNotThere, `naltvigo: at key 2: no such key or member`},
-		{textOf(Array{Text("a")}), ErrNotThere, `naltvigo: at key ["a"]: no such key or member`},
+		{textOf(Int(2)), ErrNotFound, `naltvigo: at key 2: no such key or member`},
+		{textOf(Array{Text("a")}), ErrNotFound, `naltvigo: at key ["a"]: no such key or member`},
 		{int64Of(Text("max")), ErrOutOfRange, `naltvigo: at key "max": the integer does not fit the type`},
 		{uint64Of(Int(1)), ErrWrongKind, `naltvigo: at key 1: an item of another kind`},
 		{boolOf(Int(1)), ErrWrongKind, `naltvigo: at key 1: an item of another kind`},
@@ -128,7 +128,7 @@ func testMembers(t *testing.T, item Item) {
 	last, err := list.At(2)
 	expect(t, "its last member", last.String(), err, `"x"`, nil)
 	_, err = list.At(3)
-	expect(t, "one more", 0, err, 0, ErrNotThere)
+	expect(t, "one more", 0, err, 0, ErrNotFound)
 	second, err := list.At(1)
 	expect(t, "its second", second.String(), err, "-1", nil)
 	_, err = second.Uint64()

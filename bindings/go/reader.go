@@ -91,7 +91,7 @@ func (reader *Reader) front() ([]byte, bool) {
 func (reader *Reader) beginCut() (err error) {
 	switch {
 	case reader.cut != nil:
-		return ErrMemory // what took the bytes had none for a key
+		return ErrMemory // the check of these bytes had no memory for a key
 	case !reader.canonical:
 		reader.cut, err = newCutMachine(&reader.options)
 		return err
@@ -143,7 +143,7 @@ type cutItem interface {
 type cutChecker struct{ *Checker }
 
 func (cut cutChecker) isCut(item []byte) bool {
-	_, err := cut.Take(item[cut.Consumed():])
+	_, err := cut.Feed(item[cut.Consumed():])
 	return err == nil && !cut.Complete()
 }
 
@@ -165,7 +165,7 @@ func (cut *cutMachine) isCut(item []byte) bool {
 		var used, reported C.size_t
 		var why C.struct_naltvigo_refusal
 		rest := item[cut.used:]
-		status := C.naltvigo_machine_take(&cut.machine, first(rest), C.size_t(len(rest)), &used, &cut.events[0], C.size_t(len(cut.events)), &reported, &why)
+		status := C.naltvigo_machine_feed(&cut.machine, first(rest), C.size_t(len(rest)), &used, &cut.events[0], C.size_t(len(cut.events)), &reported, &why)
 		cut.used += int(used)
 		if status != C.NALTVIGO_EVENT {
 			return status == C.NALTVIGO_MORE

@@ -32,7 +32,7 @@ static struct naltvigo_writer
 writer_at_end(StringInfo out, size_t length)
 {
 	enlargeStringInfo(out, (int) length);
-	return naltvigo_write_to((uint8_t *) out->data + out->len, length);
+	return naltvigo_writer_to((uint8_t *) out->data + out->len, length);
 }
 
 enum
@@ -46,9 +46,9 @@ put_number(StringInfo out, uint32_t kind, int64 number)
 	struct naltvigo_writer writer = writer_at_end(out, HEAD_MAX);
 
 	if (kind == NALTVIGO_ARRAY)
-		naltvigo_put_array_of(&writer, number);
+		naltvigo_put_array_n(&writer, number);
 	else if (kind == NALTVIGO_MAP)
-		naltvigo_put_map_of(&writer, number);
+		naltvigo_put_map_n(&writer, number);
 	else
 		naltvigo_put_int(&writer, number);
 	out->len += writer.needed;
@@ -73,7 +73,7 @@ put_text(StringInfo out, const text *given)
 	const size_t enough = Min(length, CBOR_BYTES + 1);
 	struct naltvigo_writer writer = writer_at_end(out, HEAD_MAX + enough);
 
-	naltvigo_put_text_of(&writer, utf8, enough);
+	naltvigo_put_text_n(&writer, utf8, enough);
 	out->len += writer.needed;
 }
 
@@ -116,7 +116,7 @@ put(FunctionCallInfo fcinfo, StringInfo out, Datum datum, Oid type)
 				ereport(ERROR,
 						(errcode(ERRCODE_DATATYPE_MISMATCH),
 						 errmsg("no item is made of a value of type %s", format_type_be(type)),
-						 type == BYTEAOID ? errhint("Give it as cbor_item(item) or as cbor_byte_string(bytes).")
+						 type == BYTEAOID ? errhint("Pass it as cbor_item(item) or as cbor_byte_string(bytes).")
 						 : errhint("Cast it to bigint, text or boolean.")));
 	}
 }
@@ -186,7 +186,7 @@ cbor_byte_string(PG_FUNCTION_ARGS)
 	bytea	   *bytes = GETARG_ITEM(0);
 	const size_t length = VARSIZE_ANY_EXHDR(bytes);
 	bytea	   *item = palloc(VARHDRSZ + HEAD_MAX + length);
-	struct naltvigo_writer writer = naltvigo_write_to((uint8_t *) VARDATA(item), HEAD_MAX + length);
+	struct naltvigo_writer writer = naltvigo_writer_to((uint8_t *) VARDATA(item), HEAD_MAX + length);
 
 	naltvigo_put_bytes(&writer, ITEM(bytes));
 	SET_VARSIZE(item, VARHDRSZ + writer.needed);

@@ -13,7 +13,7 @@ step_by_text(struct naltvigo_cursor at, const text *step)
 	const size_t given = VARSIZE_ANY_EXHDR(step);
 	const char *utf8 = pg_server_to_any(VARDATA_ANY(step), given, PG_UTF8);
 
-	return naltvigo_at_text_of(at, utf8, utf8 == VARDATA_ANY(step) ? given : strlen(utf8));
+	return naltvigo_at_text_n(at, utf8, utf8 == VARDATA_ANY(step) ? given : strlen(utf8));
 }
 
 static struct naltvigo_cursor
@@ -49,11 +49,11 @@ find(FunctionCallInfo fcinfo)
 	int			count = PG_NARGS() > 1 ? extract_variadic_args(fcinfo, 1, true, &steps, &types, &nulls) : 0;
 
 	if (count < 0)
-		return naltvigo_cursor_none(NALTVIGO_NOT_THERE);
+		return naltvigo_cursor_none(NALTVIGO_NOT_FOUND);
 	for (int i = 0; i < count; i++)
 	{
 		if (nulls[i])
-			return naltvigo_cursor_none(NALTVIGO_NOT_THERE);
+			return naltvigo_cursor_none(NALTVIGO_NOT_FOUND);
 		/* a step of another type is an error also if the path has ended */
 		at = step(at, steps[i], types[i]);
 	}

@@ -17,7 +17,7 @@ from naltvigo import dumps, loads
 try:
     import cbor2
 except ImportError:
-    sys.exit("cbor2 is not there (Debian's python3-cbor2, with /usr/bin/python3)")
+    sys.exit("cbor2 is not installed (Debian's python3-cbor2, with /usr/bin/python3)")
 
 # the claims of a token (RFC 8392, appendix A.1), less the last
 CLAIMS = {

@@ -114,7 +114,7 @@ static inline struct explanation split(char *lines) {
 /* The value of a key of a map, the member of an array at an index from 0, or the content of a tag with this number. */
 static inline struct naltvigo_cursor step_by_integer(struct naltvigo_cursor at, int64_t step) {
     if (naltvigo_kind(at) == NALTVIGO_MAP) return naltvigo_at_int(at, step);
-    if (step < 0) return naltvigo_cursor_none(NALTVIGO_NOT_THERE);
+    if (step < 0) return naltvigo_cursor_none(NALTVIGO_NOT_FOUND);
     if (naltvigo_kind(at) == NALTVIGO_TAG) return naltvigo_at_tag(at, (uint64_t)step);
     return naltvigo_at_index(at, (uint64_t)step);
 }

@@ -29,14 +29,14 @@ static void put_blob(sqlite3_context *context, sqlite3_value *value, struct nalt
         fail(context, "cbor: give a blob as cbor_item(item) or as cbor_byte_string(bytes)");
     } else if (take_blob(context, value, &item, "cbor: an item is a blob")) {
         naltvigo_put_encoded(writer, item.at, item.length);
-        if (writer->status == NALTVIGO_NOT_THERE) fail(context, "cbor: this blob is not an item");
+        if (writer->status == NALTVIGO_NOT_FOUND) fail(context, "cbor: this blob is not an item");
     }
 }
 
 static void put_text(sqlite3_context *context, sqlite3_value *value, struct naltvigo_writer *writer) {
     const char *text = (const char *)sqlite3_value_text(value);
     if (text)
-        naltvigo_put_text_of(writer, text, (size_t)sqlite3_value_bytes(value));
+        naltvigo_put_text_n(writer, text, (size_t)sqlite3_value_bytes(value));
     else
         sqlite3_result_error_nomem(context);
 }
@@ -57,9 +57,9 @@ static int put(sqlite3_context *context, sqlite3_value *value, struct naltvigo_w
 static int put_all(sqlite3_context *context, uint32_t kind, int count, sqlite3_value **values, struct naltvigo_writer *writer) {
     int i;
     if (kind == NALTVIGO_MAP)
-        naltvigo_put_map_of(writer, (uint64_t)count / 2);
+        naltvigo_put_map_n(writer, (uint64_t)count / 2);
     else
-        naltvigo_put_array_of(writer, (uint64_t)count);
+        naltvigo_put_array_n(writer, (uint64_t)count);
     for (i = 0; i < count; i++)
         if (!put(context, values[i], writer)) return 0;
     return 1;
@@ -67,7 +67,7 @@ static int put_all(sqlite3_context *context, uint32_t kind, int count, sqlite3_v
 
 /* The item that `put` puts, in two turns: to count its bytes, and to write them. */
 static void make(sqlite3_context *context, put_call *put, uint32_t kind, int count, sqlite3_value **values) {
-    struct naltvigo_writer writer = naltvigo_write_to(NULL, 0);
+    struct naltvigo_writer writer = naltvigo_writer_to(NULL, 0);
     struct bytes item;
     uint8_t *space;
     if (!put(context, kind, count, values, &writer)) return;
@@ -76,7 +76,7 @@ static void make(sqlite3_context *context, put_call *put, uint32_t kind, int cou
         sqlite3_result_error_nomem(context);
         return;
     }
-    writer = naltvigo_write_to(space, writer.needed);
+    writer = naltvigo_writer_to(space, writer.needed);
     if (put(context, kind, count, values, &writer)) {
         item.at = space;
         item.length = writer.needed;

@@ -32,7 +32,7 @@ static int follow(sqlite3_context *context, int count, sqlite3_value **steps, st
                 sqlite3_result_error_nomem(context);
                 return 0;
             }
-            *at = naltvigo_at_text_of(*at, text, (size_t)sqlite3_value_bytes(steps[i]));
+            *at = naltvigo_at_text_n(*at, text, (size_t)sqlite3_value_bytes(steps[i]));
         }
     }
     return 1;

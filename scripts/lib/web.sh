@@ -4,10 +4,10 @@
 # Ends the script if there is no Node, or it is too old; fails if the modules are not built.
 need_node_and_modules() {
     local module
-    command -v node >/dev/null || { say 'not tested: Node is not there'; exit 0; }
+    command -v node >/dev/null || { say 'not tested: Node is not installed'; exit 0; }
     [ "$(node -p 'process.versions.node.split(".")[0] >= 20')" = true ] || { say "not tested: Node $(node --version) is older than 20"; exit 0; }
     for module in naltvigo64.wasm naltvigo32.wasm; do
-        [ -e "$root/bindings/js/wasm/$module" ] || fail "bindings/js/wasm/$module is not there: run scripts/build_web.sh"
+        [ -e "$root/bindings/js/wasm/$module" ] || fail "bindings/js/wasm/$module is missing: run scripts/build_web.sh"
     done
 }
 

@@ -37,7 +37,7 @@ class Handle {
     /** The status after at most WINDOW bytes. The instance then has the number of bytes used, and the refusal. */
     take(part) {
         const { exports, left, first, refusal } = this.instance, input = left.put(part);
-        return this.#run(() => exports.naltvigo_checker_take_raw(this.pointer, input.pointer, input.size, first, refusal));
+        return this.#run(() => exports.naltvigo_checker_feed_raw(this.pointer, input.pointer, input.size, first, refusal));
     }
 
     end() {

@@ -1,6 +1,6 @@
 /**
- * Has `instanceof` take what another copy of this package made, such as one that was loaded by `require` when this one was
- * imported. A subclass keeps the usual meaning.
+ * Makes `instanceof` true for objects of another copy of this package, such as one that was loaded by `require` when this one
+ * was imported. For a subclass it has the usual meaning.
  */
 export function sharedByCopies(type, name) {
     const brand = Symbol.for(`naltvigo.${name}`);

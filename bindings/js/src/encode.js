@@ -185,7 +185,7 @@ function isPlainElsewhere(item) {
     return Object.getPrototypeOf(prototype) === null && Object.hasOwn(prototype, 'hasOwnProperty');
 }
 
-// ---- what is said of it
+// ---- the messages
 
 const ofNumber = item => (Number.isInteger(item)
     ? `${item} is not a safe integer; write it as a bigint`

@@ -18,7 +18,7 @@ function* eventsOf(library, chunks, given) {
     if (machine.status === MORE) throw machine.refused(TRUNCATED);
 }
 
-/** The events of the next bytes. Pieces that only PART cuts are given as one. */
+/** The events of the next bytes. Pieces that only PART separates are joined. */
 function* eventsIn(machine, chunk) {
     const begin = machine.consumed;
     let piece;

@@ -1,4 +1,4 @@
-// The bytes that a call is given.
+// The input of a call, as bytes.
 import { withArticle } from './values.js';
 
 const wrongType = data =>
@@ -27,7 +27,7 @@ function viewOf({ buffer, offset, length }, data) {
     return new Uint8Array(buffer.call(data), offset.call(data), length.call(data));
 }
 
-/** Whether a getter of a built-in class takes this object, so that it is one of the class, of any realm. */
+/** Whether a getter of a built-in class accepts this object: then it is an object of this class, of any realm. */
 function takes(get, object) {
     try {
         get.call(object);

@@ -38,7 +38,7 @@ class Block {
         this.size = 0;
     }
 
-    /** Space for this many bytes; what was there may be lost. Even for none there is a block: no pointer is null. */
+    /** Space for this many bytes. The previous content may be lost. Even for 0 bytes there is a block, so no pointer is null. */
     atLeast(count) {
         if (this.size > 0 && count <= this.size) return this;
         let size = SMALLEST;
@@ -53,7 +53,7 @@ class Block {
         return this;
     }
 
-    /** Copies bytes here: where they are, and how many, as a number and as the module takes it. */
+    /** Copies bytes here. Returns where they are, and their number, as a number and as a bigint for the module. */
     put(bytes) {
         this.atLeast(bytes.length);
         this.instance.bytes().set(bytes, this.offset);
@@ -61,14 +61,14 @@ class Block {
     }
 }
 
-// Where a call writes its results besides bytes: `needed`, `taken` or `used`; `side` or `reported`; the refusal; a head.
+// Where a call writes its results besides bytes: `needed`, `length` or `used`; `side` or `reported`; the refusal; a head.
 const SECOND = 8;
 const REFUSAL = 16;
 const HEAD = 48;
 const RESULTS = 64;
 const LONGEST_HEAD = 9n;
 
-/** Grows a memory to a size. If it has 64-bit addresses, some engines take the number of pages only as a bigint. */
+/** Grows a memory to a size. If it has 64-bit addresses, some engines accept the number of pages only as a bigint. */
 function growTo(memory, size) {
     const pages = (size - memory.buffer.byteLength) / PAGE;
     try {
@@ -140,7 +140,7 @@ export class Instance {
         return Number(numberAt(this.words(), offset));
     }
 
-    /** `needed`, `taken` or `used` of the last call. */
+    /** `needed`, `length` or `used` of the last call. */
     firstResult() {
         return this.count(this.results);
     }

@@ -22,7 +22,7 @@ class Sequence {
         this.given = given;
         /** The limit, and one byte, which shows that there are more. */
         this.most = Number(given.maxBytes) + 1;
-        /** How many items were given, and how many bytes they have. */
+        /** How many items were returned, and how many bytes they have. */
         this.count = 0;
         this.start = 0;
     }
@@ -105,7 +105,7 @@ class OpenItem {
         this.isAtEnd = false;
     }
 
-    /** Takes the bytes up to the end of the item, and returns those after it. */
+    /** Consumes the bytes up to the end of the item, and returns those after it. */
     take(data) {
         let at = 0;
         while (at < data.length && !this.isAtEnd) {

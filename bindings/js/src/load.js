@@ -14,7 +14,7 @@ export { DecodeError, EncodeError, Simple, Tag } from './values.js';
 // The smallest module with a memory of 64-bit addresses: a header, and a memory section of one page.
 const MEMORY64 = Uint8Array.of(0, 97, 115, 109, 1, 0, 0, 0, 5, 3, 1, 4, 1);
 
-/** Whether this engine takes naltvigo64.wasm; naltvigo32.wasm is for the others. */
+/** Whether this engine can load naltvigo64.wasm; naltvigo32.wasm is for the others. */
 export const hasMemory64 = () => WebAssembly.validate(MEMORY64);
 
 async function compiled(source) {

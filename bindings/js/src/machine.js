@@ -1,4 +1,4 @@
-// A machine of the module, which takes one item in parts and reports its events.
+// A machine of the module, which reads one item in parts and reports its events.
 import { numberAt } from './instance.js';
 import { DEPTH_MAX, MORE, NO_ARGUMENT, OK } from './numbers.js';
 
@@ -33,12 +33,12 @@ export class Machine {
         return this.status === OK;
     }
 
-    /** Takes at most PART bytes: how many of them it used, the error if the item is refused, and the events' reader. */
+    /** Consumes at most PART bytes. Returns their number, the error if the item is refused, and the events' reader. */
     step(part) {
         const instance = this.library.instance(), { exports, first, second, refusal } = instance;
         const input = instance.left.put(part), machine = instance.right.put(this.state), space = part.length + 1;
         const { pointer, offset } = instance.output.atLeast(space * EVENT_SIZE);
-        this.status = instance.run(() => exports.naltvigo_machine_take_raw(
+        this.status = instance.run(() => exports.naltvigo_machine_feed_raw(
             machine.pointer, input.pointer, input.size, first, pointer, BigInt(space), second, refusal));
         this.state.set(instance.bytes().subarray(instance.right.offset, instance.right.offset + MACHINE_SIZE));
         const used = instance.firstResult(), count = instance.secondResult();

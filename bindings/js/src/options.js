@@ -1,4 +1,4 @@
-// What is given besides an input.
+// The options of a call.
 import { DEPTH_MAX } from './numbers.js';
 
 const BYTES_MAX = 1n << 62n;
@@ -35,7 +35,7 @@ function requireObject(options) {
     if (options === null || typeof options !== 'object') throw new TypeError('naltvigo: the options are an object');
 }
 
-/** The options that every call takes, as the module takes them; another one is a TypeError. */
+/** The options that every call accepts, as the module needs them. Any other option is a TypeError. */
 export function settings(options) {
     if (options === undefined) return DEFAULTS;
     requireObject(options);

@@ -21,7 +21,7 @@ export class Output extends GrowingBytes {
         super(KEPT);
     }
 
-    /** `maxBytes` is the limit; of a string that goes beyond it no more is written than shows that it does. */
+    /** `maxBytes` is the limit. Of a longer string, only as much is written as shows that it is too long. */
     static lent(library, maxBytes) {
         const output = Output.#spare ?? new Output();
         Output.#spare = undefined;

@@ -1,7 +1,7 @@
 // A map for many keys that a stranger may have chosen. No look-up depends on how the engine hashes keys.
 import { sharedByCopies } from './copies.js';
 
-// What `Map` itself holds of a SortedMap: a key that no structured clone takes. Without it a clone would be an empty map.
+// What `Map` itself holds of a SortedMap: a key that makes a structured clone fail. Without it a clone would be an empty map.
 const NO_CLONE = Symbol('a SortedMap has no structured clone; pass [...map]');
 
 const isSought = key => typeof key === 'number' || typeof key === 'bigint' || typeof key === 'string';
@@ -143,7 +143,7 @@ class Pairs {
     }
 }
 
-/** What takes as many pairs by `set`; `finished` makes the map of it. */
+/** An object with `set`, for this many pairs; `finished` makes the map from it. */
 export const emptyMap = count => (count > PAIRS ? new Pairs() : new Map());
 
 export const finished = made => (made instanceof Pairs ? made.map() : made);

@@ -150,7 +150,7 @@ function exhaust(call) {
     return ended;
 }
 
-test('checkers go on when other calls do not return, and after freeMemory', async () => {
+test('checkers continue when other calls do not return, and after freeMemory', async () => {
     const library = await load(wasm), data = mapOfLong(70000, [1, 2, 3]), deep = bytes('bf6346756ef563416d7421ff');
     const checkers = Array.from({ length: 50 }, () => new library.Checker());
     for (const [i, part] of cut(data, 20000).entries()) {
@@ -165,12 +165,12 @@ test('checkers go on when other calls do not return, and after freeMemory', asyn
 
 const TRAP = new WebAssembly.RuntimeError('unreachable');
 
-/** A library whose first instance traps where `trapped.take` says so, and fails if a checker is called there after `trap`. */
+/** A library whose first instance traps where `trapped.feed` says so, and fails if a checker is called there after `trap`. */
 async function trapping() {
-    const { module, instance } = await WebAssembly.instantiate(wasm, {}), trapped = { take: false, isAtEnd: false };
+    const { module, instance } = await WebAssembly.instantiate(wasm, {}), trapped = { feed: false, isAtEnd: false };
     const exports = Object.fromEntries(Object.entries(instance.exports).map(([name, value]) => [name, !name.includes('checker') ? value : (...given) => {
         assert.ok(!trapped.isAtEnd, `${name} is called in an instance that trapped`);
-        if (trapped.take && name.includes('take')) throw TRAP;
+        if (trapped.feed && name.includes('feed')) throw TRAP;
         return value(...given);
     }]));
     const library = new Library(module, { exports });
@@ -181,7 +181,7 @@ async function trapping() {
     return { library, Checker: checkerOf(library), trapped, trap };
 }
 
-test('a checker goes on in another instance when its own trapped, time and again', async () => {
+test('a checker continues in another instance when its own trapped, time and again', async () => {
     const { library, Checker, trap } = await trapping(), data = mapOfLong(300000, [1, 2]), [first, ...parts] = cut(data, 100000);
     const checker = new Checker(LARGE), late = new Checker(LARGE), others = parts.map(() => new Checker());
     for (const it of [checker, late]) it.feed(first);
@@ -201,7 +201,7 @@ test('a checker goes on in another instance when its own trapped, time and again
     assert.equal(calls.canonicalise(library, bytes('1800')).length, 1);
 });
 
-test('an instance that goes on with the memory of another takes no more of it', async () => {
+test('an instance that continues with the memory of another takes no more of it', async () => {
     const { module, instance } = await WebAssembly.instantiate(limitedMemory(wasm, 40), {}), library = new Library(module, instance);
     let last = library.instance();
     for (let i = 0; i < 100; i++) {
@@ -213,13 +213,13 @@ test('an instance that goes on with the memory of another takes no more of it', 
     }
 });
 
-test('a checker whose own call trapped says so until restart, and others go on', async () => {
+test('a checker whose own call trapped says so until restart, and others continue', async () => {
     const { Checker, trapped } = await trapping(), own = new Checker(), other = new Checker();
     own.feed(bytes('82'));
     other.feed(bytes('83'));
-    trapped.take = true;
+    trapped.feed = true;
     assert.throws(() => own.feed(bytes('00')), TRAP);
-    trapped.take = false;
+    trapped.feed = false;
     for (const call of [() => own.feed(bytes('00')), () => own.end()]) {
         assert.throws(call, { message: 'naltvigo: the checker is lost, since a call of it did not return' });
     }

@@ -131,7 +131,7 @@ test('no call takes more of its stack than the header says, at any depth', async
         diagnostic: (p, n) => x.naltvigo_diagnostic_raw(p, n, ...options.slice(1), output, 1n << 20n, results, results + 16n),
         inParts: (p, n) => {
             x.naltvigo_checker_new_raw(...options, checker);
-            x.naltvigo_checker_take_raw(checker, p, n, results, results + 16n);
+            x.naltvigo_checker_feed_raw(checker, p, n, results, results + 16n);
             x.naltvigo_checker_end_raw(checker, results + 16n);
             x.naltvigo_checker_free_raw(checker);
         },

@@ -139,7 +139,7 @@ def checkers(counts):
             sys.exit(f"feed, request {start} refused: {found!r}")
         # of a part that was not copied nothing was used
         if checker.consumed and found is MemoryError and outcome(call(checker.feed, b"")) is not MemoryError:
-            sys.exit(f"feed, request {start} refused: it goes on")
+            sys.exit(f"feed, request {start} refused: it continues")
         checker.restart()
         if outcome(call(checker.feed, longest)) is not True or checker.used != len(longest):
             sys.exit(f"feed, request {start} refused: a restart does not help")

@@ -39,7 +39,7 @@ def has_other_meaning(value):
     return isinstance(value, (list, tuple)) and any(map(has_other_meaning, value))
 
 
-@unittest.skipIf(cbor2 is None, "cbor2 is not there")
+@unittest.skipIf(cbor2 is None, "cbor2 is not installed")
 class Cbor2(unittest.TestCase):
     def values(self, count):
         rng = random.Random(9)

@@ -22,7 +22,7 @@ def parts_of(data, size):
 
 
 def word_on(data, **options):
-    """What check_canonical says of the item that these bytes begin: its number of bytes, or the refusal; None if it goes on."""
+    """What check_canonical says of the item that these bytes begin: its number of bytes, or the refusal; None if it continues."""
     said = result_of(check_canonical, data, **options)
     if said is None:
         return len(data)

@@ -28,13 +28,13 @@ pub enum Checked {
 ///
 /// let mut checker = Checker::new(&Options::default())?;
 /// // {"a": 1, "b": 2}, and a byte that follows it
-/// assert_eq!(checker.take(b"\xa2\x61a\x01\x61")?, Checked::More);
-/// assert_eq!(checker.take(b"b\x02\xf6")?, Checked::Complete(2));
+/// assert_eq!(checker.feed(b"\xa2\x61a\x01\x61")?, Checked::More);
+/// assert_eq!(checker.feed(b"b\x02\xf6")?, Checked::Complete(2));
 /// assert_eq!(checker.end()?, 7);
 ///
 /// checker.restart();
 /// // the key "a" after "b": refused with its last byte
-/// let refused = checker.take(b"\xa2\x61b\x02\x61a").unwrap_err();
+/// let refused = checker.feed(b"\xa2\x61b\x02\x61a").unwrap_err();
 /// assert_eq!((refused.reason, refused.offset), (Reason::KeyOrder, 4));
 /// # Ok::<(), naltvigo::Refused>(())
 /// ```
@@ -95,14 +95,14 @@ impl Checker {
     /// After the item is complete, a call consumes nothing and returns `Complete(0)`. After a refusal, a call
     /// returns the same refusal. Its offset counts from the item's first byte. After [`Reason::Memory`], call
     /// [`restart`](Checker::restart).
-    pub fn take(&mut self, part: &[u8]) -> Result<Checked, Refused> {
+    pub fn feed(&mut self, part: &[u8]) -> Result<Checked, Refused> {
         if self.trailing {
             return Err(self.refuse_trailing());
         }
         let (mut used, mut refusal) = (0, raw::Refusal::default());
         // SAFETY: the library made the handle, and it is not freed. The part is as long as is said.
         let status = unsafe {
-            raw::naltvigo_checker_take_raw(
+            raw::naltvigo_checker_feed_raw(
                 &mut self.raw,
                 part.as_ptr(),
                 part.len(),

@@ -32,7 +32,7 @@ use std::io::{self, ErrorKind, Read, Write};
 /// ```
 impl Write for Checker {
     fn write(&mut self, part: &[u8]) -> io::Result<usize> {
-        match self.take(part)? {
+        match self.feed(part)? {
             Checked::More => Ok(part.len()),
             Checked::Complete(0) if !part.is_empty() => Err(self.refuse_trailing().into()),
             Checked::Complete(used) => Ok(used),
@@ -88,7 +88,7 @@ pub fn check_reader(mut reader: impl Read, options: &Options) -> Result<u64, Rea
             Err(error) if error.kind() == ErrorKind::Interrupted => continue,
             Err(error) => return Err(ReadError::Read(error)),
         };
-        match checker.take(&buffer[..count])? {
+        match checker.feed(&buffer[..count])? {
             Checked::Complete(used) if used < count => {
                 return Err(checker.refuse_trailing().into())
             }

@@ -23,7 +23,7 @@ use core::fmt;
 pub enum GetError {
     /// The map has no such key.
     #[non_exhaustive]
-    NotThere {
+    NotFound {
         /// The key, or the keys.
         key: Box<str>,
     },
@@ -50,8 +50,8 @@ pub enum GetError {
 }
 
 impl GetError {
-    pub(crate) fn not_there(key: Key<'_>) -> GetError {
-        GetError::NotThere { key: text_of(key) }
+    pub(crate) fn not_found(key: Key<'_>) -> GetError {
+        GetError::NotFound { key: text_of(key) }
     }
 
     pub(crate) fn wrong_kind(found: Part<'_>, needed: &'static str) -> GetError {
@@ -74,7 +74,7 @@ impl GetError {
     pub(crate) fn at(mut self, looked_up: Key<'_>) -> GetError {
         let outer = text_of(looked_up);
         match &mut self {
-            GetError::NotThere { key } => *key = format!("{outer}.{key}").into(),
+            GetError::NotFound { key } => *key = format!("{outer}.{key}").into(),
             GetError::WrongKind { key, .. } | GetError::OutOfRange { key, .. } => {
                 *key = Some(match key {
                     Some(inner) => format!("{outer}.{inner}").into(),
@@ -122,7 +122,7 @@ fn name_of(part: Part<'_>) -> &'static str {
 impl fmt::Display for GetError {
     fn fmt(&self, f: &mut fmt::Formatter<'_>) -> fmt::Result {
         let (key, found, needed) = match self {
-            GetError::NotThere { key } => return write!(f, "the map has no key {key}"),
+            GetError::NotFound { key } => return write!(f, "the map has no key {key}"),
             GetError::WrongKind { key, found, needed } => (key, *found, format!("not {needed}")),
             GetError::OutOfRange { key, found, needed } => (
                 key,

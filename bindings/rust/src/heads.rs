@@ -2,7 +2,7 @@
 
 use crate::options::{Options, Order, WIDEST};
 use crate::parts::Part;
-use crate::raw::{self, NOT_THERE, OK, TOO_SMALL};
+use crate::raw::{self, NOT_FOUND, OK, TOO_SMALL};
 use alloc::vec;
 use alloc::vec::Vec;
 
@@ -46,7 +46,7 @@ pub(crate) fn item_at(input: &[u8], offset: u64) -> Option<raw::Item> {
 
 /// Why a look-up finds nothing.
 pub(crate) enum NotFound {
-    NotThere,
+    NoKey,
     NotMap,
 }
 
@@ -66,7 +66,7 @@ pub(crate) fn find(map: &[u8], key: &[u8]) -> Result<raw::Item, NotFound> {
     };
     match status {
         OK => Ok(value),
-        NOT_THERE => Err(NotFound::NotThere),
+        NOT_FOUND => Err(NotFound::NoKey),
         _ => Err(NotFound::NotMap),
     }
 }

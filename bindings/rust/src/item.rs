@@ -151,7 +151,7 @@ impl<'a> Item<'a> {
     {
         let key = key.into();
         let value = self.find(key).map_err(|why| match why {
-            NotFound::NotThere => GetError::not_there(key),
+            NotFound::NoKey => GetError::not_found(key),
             NotFound::NotMap => GetError::wrong_kind(self.part(), "a map"),
         })?;
         T::try_from(value).map_err(|why| GetError::from(why).at(key))
@@ -165,7 +165,7 @@ impl<'a> Item<'a> {
     {
         let key = key.into();
         match self.find(key) {
-            Err(NotFound::NotThere) => Ok(None),
+            Err(NotFound::NoKey) => Ok(None),
             Ok(value) if matches!(value.view(), View::Simple(Simple::NULL)) => Ok(None),
             Ok(value) => T::try_from(value)
                 .map(Some)
@@ -202,9 +202,9 @@ impl<'a> Item<'a> {
                 Ok(bytes) => self.find_bytes(&bytes),
                 Err(why) if why.reason == Reason::Memory => panic!("{why}"),
                 // deeper than any item
-                Err(_) => Err(NotFound::NotThere),
+                Err(_) => Err(NotFound::NoKey),
             },
-            _ => Err(NotFound::NotThere),
+            _ => Err(NotFound::NoKey),
         }
     }
 

@@ -103,7 +103,7 @@ impl Machine {
         let mut refusal = raw::Refusal::default();
         // SAFETY: as of the calls; the machine is one, since none but the library writes it.
         let status = unsafe {
-            raw::naltvigo_machine_take_raw(
+            raw::naltvigo_machine_feed_raw(
                 &mut self.0,
                 part.as_ptr(),
                 part.len(),

@@ -8,7 +8,7 @@ pub const TOO_SMALL: u32 = 2;
 pub const DIFFERENT: u32 = 6;
 pub const EVENT: u32 = 7;
 pub const MORE: u32 = 8;
-pub const NOT_THERE: u32 = 10;
+pub const NOT_FOUND: u32 = 10;
 
 pub const LEFT: u32 = 0;
 
@@ -179,7 +179,7 @@ extern "C" {
         needed: *mut usize,
     ) -> u32;
     pub fn naltvigo_machine_start_raw(depth: u32, bytes: u64, machine: *mut Machine) -> u32;
-    pub fn naltvigo_machine_take_raw(
+    pub fn naltvigo_machine_feed_raw(
         machine: *mut Machine,
         input: *const u8,
         input_length: usize,
@@ -230,7 +230,7 @@ extern "C" {
         checker: *mut Checker,
     ) -> u32;
     pub fn naltvigo_checker_restart_raw(order: u32, checker: *mut Checker) -> u32;
-    pub fn naltvigo_checker_take_raw(
+    pub fn naltvigo_checker_feed_raw(
         checker: *mut Checker,
         input: *const u8,
         input_length: usize,

@@ -118,7 +118,7 @@ impl Cut {
             Cut::Any(machine) => machine.needs_more(&came[machine.consumed() as usize..]),
             Cut::Canonical(checker) => {
                 let rest = &came[checker.consumed() as usize..];
-                checker.take(rest) == Ok(Checked::More)
+                checker.feed(rest) == Ok(Checked::More)
             }
         }
     }

@@ -176,7 +176,7 @@ impl Value {
         GetError: From<T::Error>,
     {
         let (key, map) = (key.into(), <&Map>::try_from(self)?);
-        let value = map.get(key).ok_or_else(|| GetError::not_there(key))?;
+        let value = map.get(key).ok_or_else(|| GetError::not_found(key))?;
         T::try_from(value).map_err(|why| GetError::from(why).at(key))
     }
 

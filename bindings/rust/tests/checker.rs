@@ -38,7 +38,7 @@ fn in_parts(checker: &mut Checker, input: &[u8], ends: &[usize], prefixes: &[Kno
     let case = || format!("{input:02x?} in {ends:?}");
     let mut from = 0;
     for &end in ends {
-        let found = checker.take(&input[from..end]).map_err(numbers);
+        let found = checker.feed(&input[from..end]).map_err(numbers);
         let (wanted, consumed) = match prefixes[end] {
             Ok(None) => (Ok(Checked::More), end as u64),
             Ok(Some(length)) => {
@@ -154,7 +154,7 @@ fn a_thousand_levels() {
     for (tower, last) in towers {
         let mut checker = Checker::new(&wide()).unwrap();
         let bytes = tower(1024);
-        let found = bytes.chunks(1).map(|part| checker.take(part).unwrap());
+        let found = bytes.chunks(1).map(|part| checker.feed(part).unwrap());
         let wanted = [
             vec![Checked::More; bytes.len() - 1],
             vec![Checked::Complete(1)],
@@ -164,7 +164,7 @@ fn a_thousand_levels() {
         assert_eq!(checker.end(), Ok(bytes.len() as u64));
         checker.restart();
         let bytes = tower(1025);
-        let refused = bytes.chunks(7).find_map(|part| checker.take(part).err());
+        let refused = bytes.chunks(7).find_map(|part| checker.feed(part).err());
         assert_eq!(refused.map(numbers), Some((9, last, last + 1)));
     }
 }
@@ -187,11 +187,11 @@ fn keys_of_a_mebibyte() {
     let (second, read) = (1 + 5 + KEY + 1, 1 + 5 + KEY + 1 + 5 + KEY);
     for size in [1400, 65_536, good.len()] {
         let mut checker = Checker::new(&wide()).unwrap();
-        let found = good.chunks(size).map(|part| checker.take(part).unwrap());
+        let found = good.chunks(size).map(|part| checker.feed(part).unwrap());
         assert!(matches!(found.last(), Some(Checked::Complete(_))));
         assert_eq!(checker.end(), Ok(good.len() as u64));
         checker.restart();
-        let refused = bad.chunks(size).find_map(|part| checker.take(part).err());
+        let refused = bad.chunks(size).find_map(|part| checker.feed(part).err());
         let wanted = (16, second as u64, read as u64);
         assert_eq!(refused.map(numbers), Some(wanted));
         assert_eq!(checker.consumed(), wanted.2);
@@ -201,16 +201,16 @@ fn keys_of_a_mebibyte() {
 #[test]
 fn a_refusal_stays() {
     let mut checker = Checker::new(&Options::default()).unwrap();
-    assert_eq!(checker.take(b"\x83\x00"), Ok(Checked::More));
+    assert_eq!(checker.feed(b"\x83\x00"), Ok(Checked::More));
     let wanted = (5, 2, 3);
     for part in [&b"\x00\xf9\x00"[1..], b"", b"\x00", b"\xff\xff"] {
-        assert_eq!(checker.take(part).map_err(numbers), Err(wanted));
+        assert_eq!(checker.feed(part).map_err(numbers), Err(wanted));
         assert_eq!(checker.end().map_err(numbers), Err(wanted));
         assert_eq!(checker.consumed(), 3);
     }
     checker.restart();
     assert_eq!(checker.consumed(), 0);
-    assert_eq!(checker.take(b"\x80"), Ok(Checked::Complete(1)));
+    assert_eq!(checker.feed(b"\x80"), Ok(Checked::Complete(1)));
     assert_eq!(checker.end(), Ok(1));
 }
 
@@ -218,8 +218,8 @@ fn a_refusal_stays() {
 #[test]
 fn a_refusal_says_why() {
     let mut checker = Checker::new(&Options::default()).unwrap();
-    checker.take(b"\xa2\x61b\x02\x61").unwrap();
-    let refused = checker.take(b"a").unwrap_err();
+    checker.feed(b"\xa2\x61b\x02\x61").unwrap();
+    let refused = checker.feed(b"a").unwrap_err();
     assert_eq!(refused.path(), "$");
     let said = "refused 16 KeyOrder at 4: ";
     assert!(refused.to_string().starts_with(said), "{refused}");
@@ -230,35 +230,35 @@ fn a_refusal_says_why() {
 fn a_complete_item_uses_nothing_more() {
     let mut checker = Checker::new(&Options::default()).unwrap();
     assert_eq!(
-        checker.take(b"\x82\x01\x02\x03\x04"),
+        checker.feed(b"\x82\x01\x02\x03\x04"),
         Ok(Checked::Complete(3))
     );
     for part in [&b"\x03"[..], b"", b"\xff\xff"] {
-        assert_eq!(checker.take(part), Ok(Checked::Complete(0)));
+        assert_eq!(checker.feed(part), Ok(Checked::Complete(0)));
         assert_eq!((checker.consumed(), checker.end()), (3, Ok(3)));
     }
 }
 
-// An item that is not complete may go on after `end` said so.
+// An item that is not complete may continue after `end` said so.
 #[test]
 fn an_end_that_was_none() {
     let mut checker = Checker::new(&Options::default()).unwrap();
     assert_eq!(checker.end().map_err(numbers), Err((1, 0, 0)));
-    assert_eq!(checker.take(b"\x82\x01"), Ok(Checked::More));
+    assert_eq!(checker.feed(b"\x82\x01"), Ok(Checked::More));
     assert_eq!(checker.end().map_err(numbers), Err((1, 2, 2)));
-    assert_eq!(checker.take(b"\x02"), Ok(Checked::Complete(1)));
+    assert_eq!(checker.feed(b"\x02"), Ok(Checked::Complete(1)));
     assert_eq!(checker.end(), Ok(3));
 }
 
-// A checker may go on in another thread.
+// A checker may continue in another thread.
 #[test]
 fn threads() {
     fn is_shared<T: Send + Sync>() {}
     is_shared::<Checker>();
     let mut checker = Checker::new(&Options::default()).unwrap();
-    assert_eq!(checker.take(b"\x82\x01"), Ok(Checked::More));
+    assert_eq!(checker.feed(b"\x82\x01"), Ok(Checked::More));
     let mut checker = thread::spawn(move || {
-        assert_eq!(checker.take(b"\x02"), Ok(Checked::Complete(1)));
+        assert_eq!(checker.feed(b"\x02"), Ok(Checked::Complete(1)));
         checker
     })
     .join()

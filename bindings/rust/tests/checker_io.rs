@@ -68,7 +68,7 @@ fn bytes_after_an_item_are_not_written() {
         let error = checker.write(b"\x03").unwrap_err();
         assert_eq!(of_io(&error), (ErrorKind::InvalidData, wanted));
         assert_eq!(checker.end().map_err(numbers), Err(wanted));
-        assert_eq!(checker.take(b"").map_err(numbers), Err(wanted));
+        assert_eq!(checker.feed(b"").map_err(numbers), Err(wanted));
     }
     checker.flush().unwrap();
     checker.restart();

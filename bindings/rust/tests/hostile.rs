@@ -281,7 +281,7 @@ fn four_mebibytes_in_packets() {
             time(3, || {
                 checker.restart();
                 for part in item.chunks(length) {
-                    checker.take(black_box(part)).unwrap();
+                    checker.feed(black_box(part)).unwrap();
                 }
                 assert_eq!(checker.end(), Ok(item.len() as u64));
             })

@@ -122,7 +122,7 @@ fn keys_of_each_kind() {
     for key in ["b", "aa", &long[..66]] {
         assert!(matches!(
             item.field::<u64>(key),
-            Err(GetError::NotThere { .. })
+            Err(GetError::NotFound { .. })
         ));
     }
     assert!(item.get(-2).is_none() && item.get(Key::Negative(u64::MAX)).is_none());

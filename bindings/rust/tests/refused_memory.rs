@@ -78,7 +78,7 @@ fn check(item: &[u8]) -> Result<u64, Refused> {
     let found = fed(&mut checker, item);
     if let Err(why) = &found {
         // it stays, until a restart
-        assert_eq!(checker.take(b"\x00").as_ref(), Err(why));
+        assert_eq!(checker.feed(b"\x00").as_ref(), Err(why));
         assert_eq!(checker.end().as_ref(), Err(why));
         checker.restart();
         assert_eq!(fed(&mut checker, item), Ok(item.len() as u64));
@@ -88,7 +88,7 @@ fn check(item: &[u8]) -> Result<u64, Refused> {
 
 fn fed(checker: &mut Checker, item: &[u8]) -> Result<u64, Refused> {
     for part in item.chunks(97) {
-        checker.take(part)?;
+        checker.feed(part)?;
     }
     checker.end()
 }
@@ -139,7 +139,7 @@ fn all_blocks_are_freed() {
     for length in [0, 1, 500, item.len() - 1, item.len()] {
         let before = BLOCKS.get();
         let mut checker = Checker::new(&Options::default()).unwrap();
-        assert!(checker.take(&item[..length]).is_ok());
+        assert!(checker.feed(&item[..length]).is_ok());
         assert!(BLOCKS.get() > before);
         drop(checker);
         assert_eq!(BLOCKS.get(), before, "after {length} bytes");
@@ -147,10 +147,10 @@ fn all_blocks_are_freed() {
     // a refusal and a restart
     let before = BLOCKS.get();
     let mut checker = Checker::new(&Options::default()).unwrap();
-    assert!(checker.take(b"\xa1\x62").is_ok());
-    assert!(checker.take(b"ab\xff").is_err());
+    assert!(checker.feed(b"\xa1\x62").is_ok());
+    assert!(checker.feed(b"ab\xff").is_err());
     checker.restart();
-    assert_eq!(checker.take(b"\x00"), Ok(Checked::Complete(1)));
+    assert_eq!(checker.feed(b"\x00"), Ok(Checked::Complete(1)));
     drop(checker);
     assert_eq!(BLOCKS.get(), before);
 }

@@ -22,7 +22,7 @@ meaning NotShortest = codes "A number or a length is encoded in more bytes than 
 meaning Indefinite = codes "An item has an indefinite length, which canonical bytes never have."
 meaning KeyOrder = codes "This key does not sort after the key before it."
 meaning Read = codes "The rest of the input could not be read."
-meaning Write = codes "The output took no more bytes."
+meaning Write = codes "The output accepted no more bytes."
 meaning Memory = codes "Out of memory."
 meaning KeyKind = codes "The key that begins here is neither an integer nor a text."
 

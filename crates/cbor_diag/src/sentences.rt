@@ -28,7 +28,7 @@ pub(crate) fn meaning(reason: Reason) -> &'static str
         Reason::Indefinite => "An item has an indefinite length, which canonical bytes never have.",
         Reason::KeyOrder => "This key does not sort after the key before it.",
         Reason::Read => "The rest of the input could not be read.",
-        Reason::Write => "The output took no more bytes.",
+        Reason::Write => "The output accepted no more bytes.",
         Reason::Memory => "Out of memory.",
         Reason::KeyKind => "The key that begins here is neither an integer nor a text.",
     }

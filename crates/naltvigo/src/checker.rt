@@ -77,7 +77,7 @@ pub extern "C" fn naltvigo_checker_restart_raw(
 /// Checks bytes from the start of `input`, until the item is complete, or refused, or no byte is left:
 /// `used` becomes how many. Once refused it uses nothing and returns the same.
 #[unsafe(no_mangle)]
-pub extern "C" fn naltvigo_checker_take_raw(
+pub extern "C" fn naltvigo_checker_feed_raw(
     alloc: Global,
     checker: &mut Checker,
     input: &[u8],

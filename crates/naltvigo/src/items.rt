@@ -10,7 +10,7 @@ ghost use Rattle.cbor_cursor.specs.Items.{BeginsWith, HasNoKey};
 ghost use Rattle.cbor_cursor.specs.Offsets.{IsItemAt, IsWithin, IsValueAt, HasNoKeyBytes, offsets_of};
 ghost use Rattle.cbor_cursor.specs.WellFormed.{BeginsWithHead, BeginsWithItem, HasNoItem};
 
-use crate::status::{NOT_THERE, OK, WRONG_KIND};
+use crate::status::{NOT_FOUND, OK, WRONG_KIND};
 use cbor_cursor::{ItemAt, Lookup, PlacedItem, find, item_at};
 
 /// The item at an offset of any bytes: `OK` exactly if a well-formed item of definite lengths begins
@@ -28,7 +28,7 @@ pub extern "C" fn naltvigo_item_at_raw(input: &[u8], offset: u64, item: &mut Pla
     ensures offset { result ≡ OK → item.new.offset ≡ offset }
     ensures within { result ≡ OK → IsWithin input.now (offsets_of item.new) }
     ensures entries { result ≡ OK → item.new.entries ≡ 0 }
-    // OK, NOT_THERE
+    // OK, NOT_FOUND
     ensures statuses { (result ≡ 0) ⊎ (result ≡ 10) }
     ensures kept { result ≢ OK → item.new ≡ item.old }
 {
@@ -37,7 +37,7 @@ pub extern "C" fn naltvigo_item_at_raw(input: &[u8], offset: u64, item: &mut Pla
             *item = placed(found);
             OK
         }
-        None => NOT_THERE,
+        None => NOT_FOUND,
     }
 }
 
@@ -58,19 +58,19 @@ pub extern "C" fn naltvigo_find_raw(
         → IsInRange k → IsValid k → key.now ≡ canonical o k
         → ((result ≡ OK) × AnyEntry (Same k)
         (λ v. (after : List ℕ) × IsItemAt o input.now v after (offsets_of value.new)) es)
-        ⊎ ((result ≡ NOT_THERE) × HasNoKey es k) }
+        ⊎ ((result ≡ NOT_FOUND) × HasNoKey es k) }
     // Other bytes are no key of the map, so it has none of them.
     ensures any_key { (o : KeyOrder) (es : Entries) (rest : List ℕ)
         → BeginsWith o (drop offset input.now) (map es) rest
         → ((result ≡ OK) × IsValueAt o es (offset + length (shortest_head Map (entries_count es))) key.now input.now rest (offsets_of value.new))
-        ⊎ ((result ≡ NOT_THERE) × HasNoKeyBytes o es key.now) }
+        ⊎ ((result ≡ NOT_FOUND) × HasNoKeyBytes o es key.now) }
     ensures wrong_kind { (o : KeyOrder) (v : Value) (rest : List ℕ) → BeginsWith o (drop offset input.now) v rest
         → (result ≡ WRONG_KIND) ↔ ((es : Entries) → v ≡ map es → ⊥) }
     ensures other_kind { (result ≡ WRONG_KIND) ↔ ((kind : ℕ) × (argument : ℕ) × (content : List ℕ)
         × BeginsWithHead (drop offset input.now) kind argument content × (kind ≢ 5)) }
     ensures within { result ≡ OK → IsWithin input.now (offsets_of value.new) }
     ensures entries { result ≡ OK → value.new.entries ≡ 0 }
-    // OK, NOT_THERE, WRONG_KIND
+    // OK, NOT_FOUND, WRONG_KIND
     ensures statuses { (result ≡ 0) ⊎ (result ≡ 10) ⊎ (result ≡ 11) }
     ensures kept { result ≢ OK → value.new ≡ value.old }
 {
@@ -79,7 +79,7 @@ pub extern "C" fn naltvigo_find_raw(
             *value = placed(found);
             OK
         }
-        Lookup::NotThere => NOT_THERE,
+        Lookup::NotThere => NOT_FOUND,
         Lookup::NotMap => WRONG_KIND,
     }
 }

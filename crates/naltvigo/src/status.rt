@@ -28,7 +28,7 @@ pub const MORE: u32 = 8;
 /// The numbers hold no machine.
 pub const BAD_MACHINE: u32 = 9;
 /// No item begins there, or no pair of the map has the key.
-pub const NOT_THERE: u32 = 10;
+pub const NOT_FOUND: u32 = 10;
 /// The item is of another kind.
 pub const WRONG_KIND: u32 = 11;
 /// No head has this kind and this number.

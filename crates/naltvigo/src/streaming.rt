@@ -67,7 +67,7 @@ pub extern "C" fn naltvigo_machine_start_raw(
 /// many events. Once the item is complete, or refused, it uses nothing and returns the same. It takes
 /// no memory.
 #[unsafe(no_mangle)]
-pub extern "C" fn naltvigo_machine_take_raw(
+pub extern "C" fn naltvigo_machine_feed_raw(
     machine: &mut SavedMachine,
     input: &[u8],
     used: &mut usize,

@@ -13,7 +13,7 @@ ghost use Rattle.naltvigo.specs.Heads.{HasHead};
 ghost use Rattle.naltvigo.specs.Writing.{writer, PutsOf, PutsNothing, IsNotItem};
 
 use crate::heads::major_with;
-use crate::status::{BAD_HEAD, NOT_THERE};
+use crate::status::{BAD_HEAD, NOT_FOUND};
 use cbor_cursor::item_at;
 use cbor_head::Major;
 use cbor_writer::Writer;
@@ -136,7 +136,7 @@ pub extern "C" fn naltvigo_writer_end_raw(out: &mut [u8], needed: &mut usize, st
 }
 
 /// Puts an item by its bytes. Unless they are exactly one well-formed item of definite lengths, it puts
-/// nothing and fails with `NOT_THERE`: other bytes would change the items after them.
+/// nothing and fails with `NOT_FOUND`: other bytes would change the items after them.
 #[unsafe(no_mangle)]
 pub extern "C" fn naltvigo_writer_encoded_raw(
     item: &[u8],
@@ -147,7 +147,7 @@ pub extern "C" fn naltvigo_writer_encoded_raw(
     ensures either { (BeginsWithItem item.now []
         × Puts (an_item item.now) out.old out.new (writer needed.old status) (writer needed.new result))
         ⊎ (IsNotItem item.now
-        × PutsNothing NOT_THERE out.old out.new (writer needed.old status) (writer needed.new result)) }
+        × PutsNothing NOT_FOUND out.old out.new (writer needed.old status) (writer needed.new result)) }
     // An item in its canonical bytes is one.
     ensures canonical { (o : KeyOrder) (v : Value) → BeginsWith o item.now v []
         → Puts (an_item item.now) out.old out.new (writer needed.old status) (writer needed.new result) }
@@ -159,7 +159,7 @@ pub extern "C" fn naltvigo_writer_encoded_raw(
     if is_item(item) {
         writer.put_item(out, item);
     } else {
-        writer.fail(NOT_THERE);
+        writer.fail(NOT_FOUND);
     }
     *needed = writer.needed;
     writer.status

@@ -8,7 +8,7 @@ SELECT cbor_same('\xf93e00', '\x00');
 SELECT cbor_is_canonical('\x00', 'none');
 \echo :LAST_ERROR_SQLSTATE
 SELECT cbor_canonical('\x00', 'lengthy');
--- a key of another type, also where an earlier one is not there
+-- a key of another type, also where an earlier one is missing
 SELECT cbor_get('\xa0', 1, true);
 \echo :LAST_ERROR_SQLSTATE
 SELECT cbor_get('\xa0', '\x00'::bytea);

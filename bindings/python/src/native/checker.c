@@ -42,12 +42,12 @@ static int is_free(const struct checker *self) {
     return 0;
 }
 
-/* Gives the bytes to the library. It is not OK and not MORE only with an exception. */
+/* Passes the bytes to the library. If the status is neither OK nor MORE, an exception is set. */
 static uint32_t take(struct checker *self, const struct input *input) {
     struct naltvigo_refusal refusal;
     size_t used = 0;
     PyThreadState *released = release_lock(input->length);
-    const uint32_t status = naltvigo_checker_take_raw(&self->checker, input->bytes, input->length, &used, &refusal);
+    const uint32_t status = naltvigo_checker_feed_raw(&self->checker, input->bytes, input->length, &used, &refusal);
     take_lock(released);
     self->used = used;
     self->consumed += used;

@@ -1,11 +1,11 @@
 /* Keys that were chosen so that they collide.
  *
  * The hashes of integers, and of tuples of them, are known to everybody. So whoever makes the input can choose keys
- * that all lead to the same places of a dict's table: then each new key meets all earlier ones, and a megabyte takes
- * a minute. Here the table is followed without its contents, one bit a place, with CPython's own steps
- * (Objects/dictobject.c, the same from 3.7 on). Where keys meet others more than MOST_MEETINGS times on average, loads
- * refuses the map. Keys that nobody chose meet one or two others; those with a plain pattern, as multiples of a power
- * of two, about ten.
+ * that all lead to the same slots of a dict's table: then each new key collides with all earlier ones, and a megabyte takes
+ * a minute. Here the table is simulated without its contents, one bit for each slot, with CPython's own steps
+ * (Objects/dictobject.c, the same from 3.7 on). If there are more than MOST_MEETINGS collisions for each key on average, loads
+ * refuses the map. Keys that nobody chose collide with one or two others, and keys with a plain pattern, such as multiples of
+ * a power of two, with about ten.
  */
 #include "decoder.h"
 
@@ -16,9 +16,9 @@
 
 struct collisions {
     uint64_t *hashes;
-    uint8_t *places;    /* a bit for each place that is taken */
-    size_t table, used; /* how many places there are, and how many are taken */
-    uint64_t meetings;  /* how often a key met another one, in this table */
+    uint8_t *places;    /* a bit for each slot of the table: whether it is used */
+    size_t table, used; /* how many slots there are, and how many are used */
+    uint64_t meetings;  /* how many collisions there were in this table */
 };
 
 static size_t most_keys(size_t table) { return table * 2 / 3; }
@@ -52,7 +52,7 @@ static void take_place(struct collisions *collisions, uint64_t hash) {
     collisions->places[i / 8] |= (uint8_t)(1 << i % 8);
 }
 
-/* A table of twice as many places, in which all keys take theirs anew, as in a dict. */
+/* Doubles the number of slots, and inserts all keys again, as a dict does. */
 static int grow(struct collisions *collisions) {
     const size_t table = 2 * collisions->table;
     uint64_t *hashes = PyMem_Realloc(collisions->hashes, most_keys(table) * sizeof *hashes);

@@ -3,11 +3,11 @@
 
 #include <string.h>
 
-/* For inputs of this number of bytes or more the texts of keys are kept, and the collector of cycles is paused: for
+/* For inputs of this number of bytes or more the texts of keys are cached, and the collector of cycles is paused: for
  * shorter ones that is not worth its cost. */
 #define LONG_ENOUGH 512
 
-/* The index is not of an item: a fault of the library, or of this code. */
+/* The index is not of an item: a bug of the library, or of this code. */
 static void *impossible(void) {
     PyErr_SetString(PyExc_SystemError, "naltvigo: the index is not that of an item");
     return NULL;
@@ -98,7 +98,7 @@ static void wake_collector(const struct decoder *decoder) {
     if (decoder->is_collecting) PyGC_Enable();
 }
 
-/* What a hook of the user's makes of a value, which it takes. `hook` and `value` may be null. */
+/* The result of a hook of the user's for a value. It steals the reference to `value`. `hook` and `value` may be null. */
 static PyObject *hooked(struct decoder *decoder, PyObject *hook, PyObject *value) {
     if (!hook || !value) return value;
     const int was_collecting = decoder->is_collecting;
@@ -109,7 +109,7 @@ static PyObject *hooked(struct decoder *decoder, PyObject *hook, PyObject *value
     return made;
 }
 
-/* The container that these members are, which it takes. */
+/* The container that has these members. It steals the references to them. */
 static PyObject *container(struct decoder *decoder, const struct level *level) {
     const struct held held = held_of(decoder, level->item);
     if (level->kind == TAG) {
@@ -163,7 +163,7 @@ static PyObject *key_leaf(struct decoder *decoder, const struct naltvigo_item *i
     return key_text(decoder->key_texts, decoder->bytes + item->content, (size_t)item->number);
 }
 
-/* The key that comes next; it takes the reference. */
+/* Stores the next key. It steals the reference. */
 static int take_key(struct decoder *decoder, struct level *level, PyObject *key) {
     level->key = key;
     if (!key) return -1;
@@ -172,7 +172,7 @@ static int take_key(struct decoder *decoder, struct level *level, PyObject *key)
     return add_key(level->collisions, key);
 }
 
-/* The value of the key at hand; it takes the reference. */
+/* Stores the value of the current key. It steals the reference. */
 static int take_value(struct level *level, PyObject *value) {
     if (!value) return -1;
     const int status = PyDict_SetItem(level->into, level->key, value);
@@ -190,7 +190,7 @@ static int take_member(struct level *level, PyObject *value) {
                             : PyList_SetItem(level->into, (Py_ssize_t)level->at++, value);
 }
 
-/* Puts a value into a container; it takes the reference. */
+/* Puts a value into a container. It steals the reference. */
 static int put_into(struct decoder *decoder, struct level *level, PyObject *value) {
     if (level->kind == MAP) return level->key ? take_value(level, value) : take_key(decoder, level, value);
     if (level->kind == ARRAY) return take_member(level, value);

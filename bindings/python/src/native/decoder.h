@@ -51,7 +51,7 @@ struct decoder {
     const struct options *options;
     const uint8_t *bytes;
     const struct naltvigo_item *next, *end;
-    PyObject *key_bytes;   /* a copy of the bytes of the key at hand, if it is a container; else null */
+    PyObject *key_bytes;   /* a copy of the bytes of the current key, if it is a container; else null */
     const char *key_start; /* its first byte */
     uint64_t key_offset;   /* the offset of the key */
     int is_collecting;     /* whether Python's collector of cycles runs */

@@ -11,13 +11,13 @@
 
 enum container { A_LIST, A_TUPLE, A_DICT, CONTENT };
 
-/* An open container. It holds its member at hand, since a callback may change the container. */
+/* An open container. It holds a reference to its current member, since a callback may change the container. */
 struct frame {
     PyObject *of, *key, *value; /* a key only of dicts */
     Py_ssize_t at, count;       /* how many members or pairs were begun, and how many the head says */
     Py_ssize_t position;        /* of PyDict_Next */
     enum container kind;
-    int is_value_due; /* the key at hand is written, and its value is not */
+    int is_value_due; /* the current key is written, and its value is not */
 };
 
 struct encoder {
@@ -44,7 +44,7 @@ int put_encoded(struct encoder *encoder, PyObject *bytes); /* an item; it is che
 
 /* ---- containers.c ---- */
 
-/* Writes the head of a container and opens it; it takes the reference. */
+/* Writes the head of a container and opens it. It steals the reference. */
 int open_frame(struct encoder *encoder, PyObject *of, enum container kind, uint32_t major, uint64_t number);
 
 /* The next member, key or value of the innermost container, borrowed from its frame: 1, 0 at its end, or -1. */

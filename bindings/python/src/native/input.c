@@ -30,7 +30,7 @@ static int copy_view(struct input *input, const Py_buffer *view, size_t most) {
     return 0;
 }
 
-/* Whether an object is a file that is mapped to be read alone: 1, 0 or -1. */
+/* Whether an object is a file that is mapped for reading only: 1, 0 or -1. */
 static int is_read_only_map(PyObject *object) {
     Py_buffer whole;
     PyObject *name = PyUnicode_FromString("mmap");

@@ -36,7 +36,7 @@ static PyObject *list_of(const struct naltvigo_event *events, size_t count, cons
     return list;
 }
 
-static PyObject *machine_take(PyObject *object, PyObject *arguments) {
+static PyObject *machine_feed(PyObject *object, PyObject *arguments) {
     struct machine *self = (struct machine *)object;
     struct naltvigo_event events[EVENTS];
     struct naltvigo_refusal refusal;
@@ -49,7 +49,7 @@ static PyObject *machine_take(PyObject *object, PyObject *arguments) {
         return NULL;
     }
     const uint64_t begins = self->machine.consumed - (uint64_t)at;
-    const uint32_t status = naltvigo_machine_take_raw(&self->machine, (const uint8_t *)part + at, (size_t)(length - at),
+    const uint32_t status = naltvigo_machine_feed_raw(&self->machine, (const uint8_t *)part + at, (size_t)(length - at),
                                                       &used, events, EVENTS, &count, &refusal);
     PyObject *list = list_of(events, count, (const uint8_t *)part, begins);
     if (!list) return NULL;
@@ -62,7 +62,7 @@ static PyMemberDef members[] = {{"consumed", T_ULONGLONG,
                                  offsetof(struct machine, machine) + offsetof(struct naltvigo_machine, consumed), READONLY,
                                  "the number of bytes of the item that were read"},
                                 {NULL, 0, 0, 0, NULL}};
-static PyMethodDef methods[] = {{"take", machine_take, METH_VARARGS,
+static PyMethodDef methods[] = {{"take", machine_feed, METH_VARARGS,
                                  "take(part, at): reads the bytes of this part from an offset on. Returns the status of the "
                                  "library, the number of\n"
                                  "bytes read, the events as tuples, and None or a Refused."},

@@ -40,7 +40,7 @@ static PyTypeObject *make_type(PyObject *module, PyType_Spec *spec) {
     return (PyTypeObject *)PyType_FromModuleAndSpec(module, spec, NULL);
 }
 
-/* `case Tag(number, content)` and `case Simple(number)` of a match statement; it takes the reference. */
+/* `case Tag(number, content)` and `case Simple(number)` of a match statement. It steals the reference. */
 static int set_match_arguments(PyTypeObject *type, PyObject *names) {
     const int status = names ? PyObject_SetAttrString((PyObject *)type, "__match_args__", names) : -1;
     Py_XDECREF(names);

@@ -43,7 +43,7 @@ struct options {
     PyObject *tag_hook, *map_hook; /* of loads, likewise */
 };
 
-/* What a call takes: its operands, and a bit for each option. */
+/* The parameters of a call: its operands, and a bit for each option. */
 struct signature {
     const char *call, *operands[2];
     unsigned takes;
@@ -86,7 +86,7 @@ void close_input(struct input *input);
 PyThreadState *release_lock(size_t length);
 void take_lock(PyThreadState *released);
 
-/* A call over one buffer: what it was given, until close_call. */
+/* A call over one buffer: its arguments, until close_call. */
 struct call {
     const struct state *state;
     struct options options;
@@ -125,7 +125,7 @@ void add_note(const char *format, void *about);
 /* Gives the exception that is set the `path` to an offset of these bytes, and a note with it; any error of its own is dropped. */
 void set_path(const struct state *state, const uint8_t *bytes, size_t length, const struct options *options, uint64_t offset);
 
-/* What the call was given, as what is refused. */
+/* The input of the call, as what is refused. */
 static inline struct refused refused_by(const struct call *call) {
     return (struct refused){.bytes = call->input.bytes, .length = call->input.length, .options = &call->options};
 }
@@ -191,7 +191,7 @@ struct frozen {
     Py_hash_t hash; /* -1 before it is computed */
     struct held held;
 };
-/* One of these members, with its hash. It takes the reference, which may be null. */
+/* One of these members, with its hash. It steals the reference, which may be null. */
 PyObject *freeze(const struct state *state, PyObject *members, const struct held *held);
 
 /* ---- sequence.c, machine.c, checker.c ---- */

@@ -40,7 +40,7 @@ static uint32_t next_item(struct items *self, uint64_t *taken, struct naltvigo_r
     return status;
 }
 
-/* Sets the exception for the item at hand. */
+/* Sets the exception for the current item. */
 static void raise_at(const struct state *state, const struct cursor *cursor, uint32_t status,
                      const struct naltvigo_refusal *refusal) {
     const struct refused of = {cursor->input.bytes + cursor->at, cursor->input.length - (size_t)cursor->at,
@@ -138,7 +138,7 @@ static uint32_t add_end(struct growing *ends, uint64_t end) {
     return NALTVIGO_OK;
 }
 
-/* Appends the canonical bytes of the item at hand, which is valid. */
+/* Appends the canonical bytes of the current item, which is valid. */
 static uint32_t add_canonical(const struct cursor *cursor, size_t taken, struct growing *out,
                               struct naltvigo_refusal *refusal) {
     const struct options *with = &cursor->options;

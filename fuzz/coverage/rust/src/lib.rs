@@ -149,7 +149,7 @@ fn checks(input: &[u8], options: &Options, part: u8, cut: u8) {
     let mut end = 0;
     for part in [first].into_iter().chain(rest.chunks(usize::from(part) + 1)) {
         end += part.len();
-        let found = checker.take(part).map_err(numbers);
+        let found = checker.feed(part).map_err(numbers);
         match check_canonical(&input[..end], options).map_err(numbers) {
             Ok(()) => assert_eq!((found, checker.consumed()), (Ok(Checked::Complete(part.len())), end as u64)),
             Err((Reason::Truncated, ..)) => assert_eq!((found, checker.consumed()), (Ok(Checked::More), end as u64)),

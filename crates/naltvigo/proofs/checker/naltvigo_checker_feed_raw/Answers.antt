@@ -1,6 +1,6 @@
 use Rattle.std.proofs.Common.{refl}
 use Rattle.naltvigo.proofs.Checked.{checked_so, held_so, part_done, part_refused, part_more}
-use Rattle.naltvigo.proofs.checker.naltvigo_checker_take_raw.Goals as goal
+use Rattle.naltvigo.proofs.checker.naltvigo_checker_feed_raw.Goals as goal
 
 pub into_machine-machine-requires : goal.into_machine-machine-requires
 into_machine-machine-requires c = rw c.replace.ensures.value c.requires.held

@@ -1,5 +1,5 @@
 use Rattle.std.proofs.Common.{sym}
-use Rattle.naltvigo.proofs.streaming.naltvigo_machine_take_raw.Goals as goal
+use Rattle.naltvigo.proofs.streaming.naltvigo_machine_feed_raw.Goals as goal
 
 pub returns-clause-streams : goal.returns-clause-streams
 returns-clause-streams c = λ _ m h.
