@@ -88,7 +88,15 @@ pub extern "C" fn naltvigo_check_valid_raw(
     ensures statuses { (result ≡ 0) ⊎ (result ≡ 1) ⊎ (result ≡ 3) ⊎ (result ≡ 5) }
     ensures unreported { result ≢ REFUSED → result ≢ NO_MEMORY → refusal.new ≡ refusal.old }
 {
-    check_valid_item(&mut Memory::new(), alloc, input, keys, depth, bytes, refusal)
+    check_valid_item(
+        &mut Memory::new(),
+        alloc,
+        input,
+        keys,
+        depth,
+        bytes,
+        refusal,
+    )
 }
 
 // Checks an item as the export does, and records in `memory` whether a request for memory was refused. If none was, it

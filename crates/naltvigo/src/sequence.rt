@@ -39,7 +39,16 @@ pub extern "C" fn naltvigo_next_valid_raw(
     ensures no_count { result ≢ OK → taken.new ≡ 0 }
     ensures unreported { result ≢ REFUSED → result ≢ NO_MEMORY → refusal.new ≡ refusal.old }
 {
-    check_next_item(&mut Memory::new(), alloc, input, keys, depth, bytes, taken, refusal)
+    check_next_item(
+        &mut Memory::new(),
+        alloc,
+        input,
+        keys,
+        depth,
+        bytes,
+        taken,
+        refusal,
+    )
 }
 
 // Checks an item as the export does, and records in `memory` whether a request for memory was refused. If none was, it
