@@ -609,9 +609,11 @@ static inline uint32_t naltvigo_index(const uint8_t *in, size_t in_length,
 /*
  * naltvigo_item_at: the item at an offset.
  *
- * Any bytes and any offset are safe: if the status is OK, offset < content <= end <= `in_length`. If an item in its
- * canonical bytes begins at the offset, the status is OK and `*item` is that item. So call naltvigo_check_canonical
- * first. naltvigo_item_at reads the item once, to find its end. It allocates no memory.
+ * Any bytes and any offset are safe. The status is OK if and only if a well-formed item without indefinite lengths begins
+ * at the offset and ends within the input; then offset < content <= end <= `in_length`. Nothing else is checked: heads may be
+ * longer than necessary, texts need not be UTF-8, keys may be repeated, and a float is an item of kind 7. If an item in its
+ * canonical bytes begins at the offset, `*item` is that item. So call naltvigo_check_canonical first. naltvigo_item_at reads
+ * the item once, to find its end. It allocates no memory.
  *
  * Returns OK, NOT_FOUND. If the status is not OK, `*item` is unchanged.
  */

@@ -1,6 +1,6 @@
 //! Whether an input is one item.
 
-ghost use Rattle.std.specs.Prelude.{◌≡◌, ◌≢◌, ◌↔◌, ◌⊎◌, ◌<◌, ◌≤◌, length, IfOk, IfErr};
+ghost use Rattle.std.specs.Prelude.{◌≡◌, ◌≢◌, ◌↔◌, ◌⊎◌, ◌<◌, ◌≤◌, length, IfOk, IfErr, IsTrue};
 ghost use Rattle.cbor_head.specs.Complaint.{plain, strict};
 ghost use Rattle.cbor_head.specs.declared.reason.Reason.TheVariants as reasons;
 ghost use Rattle.cbor_reader.specs.Canonicalise.{IsCanonicalOf};
@@ -16,8 +16,9 @@ use crate::status::{
     BAD_LIMITS, BAD_ORDER, NO_MEMORY, NaltvigoRefusal, OK, REFUSED, report, reported,
 };
 use cbor_head::{KeyOrder, Limits, Refusal};
+use cbor_memory::Memory;
 use cbor_reader::laws::{items_and_their_refusals, own_results_are_strictly_accepted, valid_items};
-use cbor_reader::{check_canonical, check_valid};
+use cbor_reader::{check_canonical, check_valid_in};
 use std::alloc::Global;
 
 /// Whether `input` is exactly one valid item in its canonical bytes. It takes no memory.
@@ -87,10 +88,44 @@ pub extern "C" fn naltvigo_check_valid_raw(
     ensures statuses { (result ≡ 0) ⊎ (result ≡ 1) ⊎ (result ≡ 3) ⊎ (result ≡ 5) }
     ensures unreported { result ≢ REFUSED → result ≢ NO_MEMORY → refusal.new ≡ refusal.old }
 {
+    check_valid_item(
+        &mut Memory::new(),
+        alloc,
+        input,
+        keys,
+        depth,
+        bytes,
+        refusal,
+    )
+}
+
+// Checks an item as the export does, and records in `memory` whether a request for memory was refused. If none was, it
+// does not return `NO_MEMORY`.
+fn check_valid_item(
+    memory: &mut Memory,
+    alloc: Global,
+    input: &[u8],
+    keys: u32,
+    depth: u32,
+    bytes: u64,
+    refusal: &mut NaltvigoRefusal,
+) -> u32
+    ensures accepted { result ≡ OK → IsWholeItem (item_limits keys depth bytes) input.now }
+    ensures refused { result ≡ REFUSED
+        → ReportsOf (IsItemRefusal (item_limits keys depth bytes) plain input.now) refusal.new }
+    ensures not_accepted { result ≡ REFUSED → ¬ IsWholeItem (item_limits keys depth bytes) input.now }
+    ensures no_memory { result ≡ NO_MEMORY → ReportsMemory 0 refusal.new }
+    ensures request { result ≡ NO_MEMORY → IsTrue memory.new }
+    ensures bad_limits { (result ≡ BAD_LIMITS) → ¬ AreLimits keys depth bytes }
+    ensures in_range { result ≢ BAD_LIMITS → AreLimits keys depth bytes }
+    // OK, REFUSED, NO_MEMORY, BAD_LIMITS
+    ensures statuses { (result ≡ 0) ⊎ (result ≡ 1) ⊎ (result ≡ 3) ⊎ (result ≡ 5) }
+    ensures unreported { result ≢ REFUSED → result ≢ NO_MEMORY → refusal.new ≡ refusal.old }
+{
     let Some(limits) = limits_of(keys, depth, bytes) else {
         return BAD_LIMITS;
     };
-    match check_whole_item(alloc, input, limits) {
+    match check_whole_item(memory, alloc, input, limits) {
         Ok(()) => OK,
         Err(reason) => report(reason, refusal),
     }
@@ -109,17 +144,24 @@ pub(crate) fn check_own_bytes(input: &[u8], limits: Limits, order: KeyOrder) -> 
     }
 }
 
-// The input is one valid item; else why it is none.
-pub(crate) fn check_whole_item(alloc: Global, input: &[u8], limits: Limits) -> Result<(), Refusal>
+// The input is one valid item; else why it is none. It records in `memory` whether a request for memory was refused. If
+// none was, the refusal is not `Memory`.
+pub(crate) fn check_whole_item(
+    memory: &mut Memory,
+    alloc: Global,
+    input: &[u8],
+    limits: Limits,
+) -> Result<(), Refusal>
     ensures accepted { IfOk result (λ _. IsWholeItem limits input.now) }
     ensures refused { IfErr result (IsItemRefusal limits plain input.now) }
     ensures memory { IfErr result ReportsMemoryAtStart }
+    ensures request { IfErr result (λ f. f.reason ≡ reasons.Memory → IsTrue memory.new) }
     ensures not_accepted { IfErr result (λ f. f.reason ≢ reasons.Memory
         → ¬ IsWholeItem limits input.now) }
 {
     valid_items();
     items_and_their_refusals();
-    match check_valid(alloc, input, limits) {
+    match check_valid_in(memory, alloc, input, limits) {
         Ok(size) if size < input.len() as u64 => Err(Refusal::trailing(size)),
         Ok(_) => Ok(()),
         Err(refusal) => Err(refusal),

@@ -15,6 +15,7 @@ use crate::status::{
 };
 use cbor_diag::TextBuffer;
 use cbor_head::{Limits, Reason, Refusal};
+use cbor_memory::Memory;
 use cbor_reader::laws::valid_items;
 use std::alloc::Global;
 
@@ -57,7 +58,7 @@ pub extern "C" fn naltvigo_diagnostic_raw(
     let Some(limits) = limits_of(keys, depth, bytes) else {
         return BAD_LIMITS;
     };
-    match check_whole_item(alloc, input, limits) {
+    match check_whole_item(&mut Memory::new(), alloc, input, limits) {
         Ok(()) => give_text(alloc, input, limits, out, needed, refusal),
         Err(reason) => report(reason, refusal),
     }

@@ -31,8 +31,8 @@ mod writing;
 
 pub use canonicalising::naltvigo_canonicalise_raw;
 pub use checker::{
-    naltvigo_checker_end_raw, naltvigo_checker_free_raw, naltvigo_checker_new_raw,
-    naltvigo_checker_restart_raw, naltvigo_checker_feed_raw,
+    naltvigo_checker_end_raw, naltvigo_checker_feed_raw, naltvigo_checker_free_raw,
+    naltvigo_checker_new_raw, naltvigo_checker_restart_raw,
 };
 pub use checking::{naltvigo_check_canonical_raw, naltvigo_check_valid_raw};
 pub use comparing::naltvigo_compare_raw;
@@ -48,7 +48,7 @@ pub use reading::{
 };
 pub use sequence::{naltvigo_next_canonical_raw, naltvigo_next_valid_raw};
 pub use status::NaltvigoRefusal;
-pub use streaming::{NaltvigoEvent, naltvigo_machine_start_raw, naltvigo_machine_feed_raw};
+pub use streaming::{NaltvigoEvent, naltvigo_machine_feed_raw, naltvigo_machine_start_raw};
 pub use writing::{
     naltvigo_writer_encoded_raw, naltvigo_writer_end_raw, naltvigo_writer_head_raw,
     naltvigo_writer_int_raw, naltvigo_writer_open_raw, naltvigo_writer_string_raw,

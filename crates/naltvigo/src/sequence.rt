@@ -1,6 +1,6 @@
 //! The item at the start of a buffer, as in a sequence of items (RFC 8742).
 
-ghost use Rattle.std.specs.Prelude.{◌≡◌, ◌≢◌, ◌↔◌, ◌⊎◌, ◌<◌, ◌≤◌};
+ghost use Rattle.std.specs.Prelude.{◌≡◌, ◌≢◌, ◌↔◌, ◌⊎◌, ◌<◌, ◌≤◌, IsTrue};
 ghost use Rattle.cbor_head.specs.Complaint.{plain, strict};
 ghost use Rattle.cbor_head.specs.Verdict.{IsVerdict, refused};
 ghost use Rattle.theory_verdicts.specs.Readers.{HasNoCanonicalPrefix, IsCanonicalPrefix, IsRead};
@@ -11,7 +11,8 @@ use crate::settings::{limits_of, order_numbered};
 use crate::status::{
     BAD_LIMITS, BAD_ORDER, NO_MEMORY, NaltvigoRefusal, OK, REFUSED, report, reported,
 };
-use cbor_reader::{check_canonical, check_valid};
+use cbor_memory::Memory;
+use cbor_reader::{check_canonical, check_valid_in};
 use std::alloc::Global;
 
 /// Whether `input` begins with one valid item; `taken` becomes the number of its bytes, and 0 if
@@ -38,11 +39,48 @@ pub extern "C" fn naltvigo_next_valid_raw(
     ensures no_count { result ≢ OK → taken.new ≡ 0 }
     ensures unreported { result ≢ REFUSED → result ≢ NO_MEMORY → refusal.new ≡ refusal.old }
 {
+    check_next_item(
+        &mut Memory::new(),
+        alloc,
+        input,
+        keys,
+        depth,
+        bytes,
+        taken,
+        refusal,
+    )
+}
+
+// Checks an item as the export does, and records in `memory` whether a request for memory was refused. If none was, it
+// does not return `NO_MEMORY`.
+fn check_next_item(
+    memory: &mut Memory,
+    alloc: Global,
+    input: &[u8],
+    keys: u32,
+    depth: u32,
+    bytes: u64,
+    taken: &mut u64,
+    refusal: &mut NaltvigoRefusal,
+) -> u32
+    ensures accepted { result ≡ OK → IsRead (item_limits keys depth bytes) plain input.now taken.new }
+    ensures refused { result ≡ REFUSED
+        → ReportsOf (λ f. IsVerdict (item_limits keys depth bytes) plain input.now (refused f))
+        refusal.new }
+    ensures no_memory { result ≡ NO_MEMORY → ReportsMemory 0 refusal.new }
+    ensures request { result ≡ NO_MEMORY → IsTrue memory.new }
+    ensures bad_limits { result ≡ BAD_LIMITS → ¬ AreLimits keys depth bytes }
+    ensures in_range { result ≢ BAD_LIMITS → AreLimits keys depth bytes }
+    // OK, REFUSED, NO_MEMORY, BAD_LIMITS
+    ensures statuses { (result ≡ 0) ⊎ (result ≡ 1) ⊎ (result ≡ 3) ⊎ (result ≡ 5) }
+    ensures no_count { result ≢ OK → taken.new ≡ 0 }
+    ensures unreported { result ≢ REFUSED → result ≢ NO_MEMORY → refusal.new ≡ refusal.old }
+{
     *taken = 0;
     let Some(limits) = limits_of(keys, depth, bytes) else {
         return BAD_LIMITS;
     };
-    match check_valid(alloc, input, limits) {
+    match check_valid_in(memory, alloc, input, limits) {
         Ok(count) => {
             *taken = count;
             OK

@@ -1,7 +1,7 @@
 use Rattle.cbor_head.specs.Prelude.{plain, Bounds, IsVerdict, refused}
 use Rattle.cbor_head.specs.declared.reason.Refusal.{Refusal}
 use Rattle.theory_verdicts.proofs.Accepted.{verdict_only}
-use Rattle.naltvigo.proofs.sequence.naltvigo_next_valid_raw.Goals as goal
+use Rattle.naltvigo.proofs.sequence.check_next_item.Goals as goal
 use Rattle.naltvigo.proofs.Given.{given-reported}
 
 pub returns-in-Err-clause-refused : goal.returns-in-Err-clause-refused

@@ -1,5 +1,5 @@
 use Rattle.std.proofs.Common.{sym}
-use Rattle.naltvigo.proofs.comparing.naltvigo_compare_raw.Goals as goal
+use Rattle.naltvigo.proofs.comparing.compare_items.Goals as goal
 use Rattle.naltvigo.proofs.Compared.{named-side, other-values, same-values}
 use Rattle.naltvigo.specs.Settings.{item_limits}
 
