@@ -1,9 +1,6 @@
+use Rattle.std.proofs.Common.{◌+◌, arith}
+use Rattle.cborc_commands.proofs.Undecided.{none_taken, taken_within, event_taken, decided_at_end, undecided_at_end, undecided_within, decided_by_refusal}
 use Rattle.cborc_commands.proofs.listing.is_undecided.Goals as goal
-use Rattle.cborc_commands.proofs.Undecided.{decided_of_listed, decided_of_unlisted}
 
-pub returns-in-Ok : goal.returns-in-Ok
-returns-in-Ok c = λ e. decided_of_listed c.args.limits c.args.bytes.now _ _ c.in-Ok.size c.in-Ok.ensures.listed e
-
-pub returns-in_default : goal.returns-in_default
-returns-in_default c =
-    λ e. decided_of_unlisted c.args.limits c.args.bytes.now _ _ c.in-Err.refusal c.in-Err.ensures.refused c.in_default.not-Truncated c.in_default.not-Read c.in_default.not-Write
+pub events-init : goal.events-init
+events-init c = none_taken c.args.limits c.args.bytes.now c.new-machine.result c.new-machine.ensures.limits.0 c.new-machine.ensures.limits.1 c.new-machine.ensures.starts
