@@ -7,7 +7,7 @@ use Rattle.cbor_head.specs.declared.{reason.Refusal.Refusal, event.Event.Event}
 use Rattle.theory_values.proofs.{Beginnings.item_decides, KindsUnasked.form_beside}
 use Rattle.theory_automaton.{proofs.Runs.take-following, specs.Trace.Mark, specs.Marks.marks_of, specs.Reasons.IsMachineReason}
 use Rattle.cbor_machine.specs.Machine.{Represents, IsComplete, IsGiven, IsRefused, KeepsLimits, wanted}
-use Rattle.cbor_machine.{specs.MachineView.MachineView, specs.NextEvent.machine_call, proofs.Form.never, proofs.Form.refusal-verdict}
+use Rattle.cbor_machine.{specs.MachineView.MachineView, specs.NextEvent.IsCut, specs.NextEvent.machine_call, proofs.Form.never, proofs.Form.refusal-verdict}
 use Rattle.cbor_machine.proofs.{NextEvents.complete-wants, NextRefusals.cut-here}
 use Rattle.theory_verdicts.specs.Readers as readers
 use Rattle.theory_verdicts.proofs.Accepted.{one_item, one_refusal, not_both}
@@ -52,6 +52,22 @@ module _ (rules : Rules) (limits : Bounds) (bytes : List ℕ) where
   undecided_of_unread f (readers.of_memory p l within e free) cut = let two : reasons.Memory ≡ reasons.Truncated = sym (ap (λ (x : Refusal). x.reason) e) ∙ cut in cc two
 
 -- ---- by the events of its form
+
+-- The machine has consumed all bytes, and expects more.
+undecided_amid : (limits : Bounds) (bytes : List ℕ) (m : MachineView) (ms : List Mark) → m.depth ≡ limits.depth → m.bytes ≡ limits.bytes → Represents m bytes ms
+    → m.taken < m.bytes → 0 < wanted m → ¬ IsDecided form limits bytes
+undecided_amid limits bytes m ms depth most agrees short wants =
+    let f : Refusal = refusal reasons.Truncated (length bytes) (length bytes) in
+    let here : Represents m (bytes ++ []) ms = subst (λ (xs : List ℕ). Represents m xs ms) (sym (append-nil bytes)) agrees in
+    let cut : IsCut f (machine_call m m (Some []) (Some []) [] [] bytes ms) =
+    cut-here f (machine_call m m (Some []) (Some []) [] [] bytes ms) (Some []) (record { bytes = []; consumed = Consumes-nil (Some []); agrees = here }) (Consumes-nil (Some []))
+    (inr (refl, refl)) (ap (λ (n : ℕ). refusal reasons.Truncated n n) (sym agrees.taken)) short (complete-wants m agrees.inner.shown wants) in
+    let none : cut.bytes ≡ [] = sym (append-nil cut.bytes) ∙ sym cut.consumed in
+    let same : bytes ++ cut.bytes ≡ bytes = ap (λ (xs : List ℕ). bytes ++ xs) none ∙ append-nil bytes in
+    undecided_of_refusal form limits bytes f
+    (form_beside (bounds m.depth m.bytes) limits bytes (refused f) depth most
+    (subst (λ (xs : List ℕ). IsVerdict (bounds m.depth m.bytes) form xs (refused (refusal reasons.Truncated (length xs) (length xs)))) same cut.verdict))
+    refl
 
 -- The machine has consumed the first of the bytes, and an item starts with them.
 pub record IsWithinBytes (limits : Bounds) (bytes : List ℕ) (m : MachineView) : Type 0 where
@@ -120,15 +136,7 @@ module _ (limits : Bounds) (bytes : List ℕ) (m : MachineView) (h : IsWithinByt
   undecided_within new at e used keeps now all short wants =
       let rest = take (length bytes - at) (drop at bytes) in
       let whole : h.taken ++ take used rest ≡ bytes = ap (λ (xs : List ℕ). h.taken ++ xs) (take_all used rest (omega (arith, all)) ∙ given at e) ∙ sym h.splits in
-      let agrees : Represents new bytes h.marks = subst (λ (xs : List ℕ). Represents new xs h.marks) whole now in
-      let size = length bytes in
-      let cut = cut-here (refusal reasons.Truncated size size) (machine_call new new (Some []) (Some []) [] [] bytes h.marks) (Some [])
-      (record { bytes = []; consumed = Consumes-nil (Some []); agrees = subst (λ (xs : List ℕ). Represents new xs h.marks) (sym (append-nil bytes)) agrees }) (Consumes-nil (Some [])) (inr (refl, refl)) (ap (λ (n : ℕ). refusal reasons.Truncated n n) (sym agrees.taken)) short
-      (complete-wants new agrees.inner.shown wants) in
-      let verdict = form_beside (bounds new.depth new.bytes) limits (bytes ++ []) (refused (refusal reasons.Truncated (length (bytes ++ [])) (length (bytes ++ []))))
-      (keeps.depth ∙ h.depth) (keeps.bytes ∙ h.most) cut.verdict in
-      undecided_of_refusal form limits bytes (refusal reasons.Truncated size size)
-      (subst (λ (xs : List ℕ). IsVerdict limits form xs (refused (refusal reasons.Truncated (length xs) (length xs)))) (append-nil bytes) verdict) refl
+      undecided_amid limits bytes new h.marks (keeps.depth ∙ h.depth) (keeps.bytes ∙ h.most) (subst (λ (xs : List ℕ). Represents new xs h.marks) whole now) short wants
 
   -- a byte is refused
   pub decided_by_refusal : (new : MachineView) (at : ℕ) → at ≡ m.taken → (used : ℕ) (f : Refusal) → KeepsLimits m new

@@ -1,4 +1,3 @@
-use Rattle.std.proofs.Common.{refl}
 use Rattle.cborc_commands.proofs.first_item.Scratch.is_undecided.Goals as goal
 use Rattle.cborc_commands.proofs.Undecided.{decided_of_item, decided_of_unread, undecided_of_item, undecided_of_unread}
 use Rattle.cborc_commands.specs.Rules.{rules_of}
