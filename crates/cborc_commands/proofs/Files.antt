@@ -2,7 +2,7 @@
 use Rattle.std.proofs.Common.{List, [], ℕ, ◌%◌, ◌≡◌, Bool, true, false, Option, Some, None, Result, Ok, Err, ◌∙◌, ap, refl, arith, length, subst, sym, ◌==◌, if◌then◌else◌, IfSome, take_all}
 use Rattle.std.specs.{List.filter, Io.KnownBytes.Appends}
 use Rattle.hex.specs.{Hex.decode_pairs, declared.error.FromHexError.FromHexError, declared.error.FromHexError.TheVariants.OddLength}
-use Rattle.cborc_files.specs.Folder.{Files, Holds, IsBlank, IsThere, KeepsFiles, ReplacesFile}
+use Rattle.cborc_files.specs.Folder.{Files, Holds, IsBlank, IsThere, IsMissing, KeepsFiles, ReplacesFile}
 use Rattle.cborc_files.specs.Hex.{is_kept}
 use Rattle.cborc_commands.specs.Input.{IsInput, IsPrefix, IsNotHex}
 
@@ -48,6 +48,11 @@ pub there_before : (a b : Option Files) (path : List ℕ) → KeepsFiles a b →
 there_before None b path k h = tt
 there_before (Some f) None path k h = absurd k
 there_before (Some f) (Some g) path k h = λ none. h (k path ∙ none)
+
+pub missing_before : (a b : Option Files) (path : List ℕ) → KeepsFiles a b → IsMissing b path → IsMissing a path
+missing_before None b path k h = tt
+missing_before (Some f) None path k h = absurd k
+missing_before (Some f) (Some g) path k h = sym (k path) ∙ h
 
 pub input_is_there : (held : Option Files) (path : List ℕ) (hex : Bool) (input : List ℕ) → IsInput held path hex input → IsThere held path
 input_is_there held path false input h = holds_there held path input h

@@ -11,7 +11,7 @@ use Rattle.cborc_files.specs.{declared.folder.FileFault.FileFault, Hex.is_kept, 
 use Rattle.cborc_commands.specs.Input.{IsInput, IsPrefix, IsNotHex}
 use Rattle.cborc_commands.specs.declared.fault.Fault.TheVariants as faults
 use Rattle.cborc_commands.specs.inner.Sources.{StartsFile, Gives, IsAll, HasGiven, IsFresh, Adds, IsPartAdded, IsUndecoded, IsHexErrorText, IsNoPart, StartsInputAt, HasInput, HasNoInput}
-use Rattle.cborc_commands.proofs.Files.{held_before, keeps_keeps, there_before}
+use Rattle.cborc_commands.proofs.Files.{held_before, keeps_keeps, there_before, missing_before}
 use Rattle.cborc_commands.proofs.Files.{same_files}
 use Rattle.cborc_commands.specs.{NoInput.IsNoInput, declared.fault.Fault.Fault, declared.source.Source.Source}
 
@@ -173,7 +173,7 @@ hex_error_text held now path s bytes keeps g h = by held keeps g.file
 
 pub no_part : (held now : Option Files) (path : List ℕ) (s : Source) (bytes : List ℕ) → KeepsFiles held now → HasGiven held path s bytes
     → (fault : Fault) → IsNoPart now path s fault → IsNoInput held path s.hex fault
-no_part held now path s bytes keeps g (faults.CannotRead named) h = h
+no_part held now path s bytes keeps g (faults.CannotRead named) (e, h) = (e, missing_before held now path keeps h)
 no_part held now path s bytes keeps g (faults.NotHex named) (e, h) =
     (e, subst (IsNotHex held path) (sym h.hex_is) (hex_error_text held now path s bytes keeps g h))
 no_part held now path s bytes keeps g faults.Memory h = there_before held now path keeps h
@@ -290,8 +290,8 @@ hex_error_end part before after old new ended e s hex_error text spelled more no
 
 -- the fault of reading
 pub by_reading : (P : Fault → Type 0) (fault : FileFault) (reported failed : Fault) → (fault ≡ file_faults.Failed → reported ≡ failed) → (fault ≡ file_faults.Memory → reported ≡ faults.Memory)
-    → P failed → (fault ≡ file_faults.Memory → P faults.Memory) → P reported
-by_reading P file_faults.Failed reported failed other memory h m = subst P (sym (other refl)) h
+    → (fault ≡ file_faults.Failed → P failed) → (fault ≡ file_faults.Memory → P faults.Memory) → P reported
+by_reading P file_faults.Failed reported failed other memory h m = subst P (sym (other refl)) (h refl)
 by_reading P file_faults.Memory reported failed other memory h m = subst P (sym (memory refl)) (m refl)
 
 -- the fault of decoding

@@ -38,7 +38,7 @@ pub record HoldsCanonical (limits : Bounds) (o : KeyOrder) (before after : Optio
 -- source that exists
 abbrev pub IsNotHeld : Bounds → KeyOrder → Files → List ℕ → List ℕ → Fault → Type 0
 IsNotHeld limits o files source target (faults.Refused f) = (input : List ℕ) × (files source ≡ Some input) × IsRefusal limits o input f × IsOfInput f.reason
-IsNotHeld limits o files source target (faults.CannotRead named) = named.now ≡ source
+IsNotHeld limits o files source target (faults.CannotRead named) = (named.now ≡ source) × (files source ≡ None)
 IsNotHeld limits o files source target (faults.CannotWrite named) = IsNotPut target (faults.CannotWrite named)
 IsNotHeld limits o files source target faults.CannotPrint = IsNotPut target faults.CannotPrint
 IsNotHeld limits o files source target faults.Memory = files source ≢ None

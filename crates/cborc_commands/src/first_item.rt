@@ -1,6 +1,6 @@
 //! The item at the start of some bytes: its size, and its diagnostic text.
 
-ghost use Rattle.std.specs.Prelude.{◌≡◌, ◌≢◌, ◌≤◌, ◌++◌, ℕ, codes, false, OnOk, IfOk, IfErr};
+ghost use Rattle.std.specs.Prelude.{◌≡◌, ◌≢◌, ◌≤◌, ◌++◌, ℕ, codes, true, false, OnOk, IfOk, IfErr};
 ghost use Rattle.std.specs.Io.KnownBytes.{Appends};
 ghost use Rattle.cbor_head.specs.Complaint.{plain};
 ghost use Rattle.cbor_head.specs.Spelling.{Spelling, value_of};
@@ -68,6 +68,8 @@ impl Scratch {
         accepted: Accepted,
         limits: Limits,
     ) -> Result<bool, Fault<'a>>
+        ensures undecided { IfOk result (λ more. more ≡ true
+            → ¬ IsDecided (rules_of accepted) limits bytes.now) }
         ensures decided { IfOk result (λ more. more ≡ false
             → IsDecided (rules_of accepted) limits bytes.now) }
         ensures memory { IfErr result (λ fault. fault ≡ Fault.Memory) }

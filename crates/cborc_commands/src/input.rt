@@ -74,6 +74,8 @@ fn may_report_more<'a>(
     limits: Limits,
 ) -> Result<bool, Fault<'a>>
     ensures yes { IfOk result (λ more. more ≡ true → parts.now.source.ended ≡ false) }
+    ensures undecided { IfOk result (λ more. more ≡ true
+        → ¬ IsDecided (judging_rules judge) limits parts.now.rest) }
     ensures no { IfOk result (λ more. more ≡ false → (parts.now.source.ended ≡ true)
         ⊎ IsDecided (judging_rules judge) limits parts.now.rest) }
     ensures memory { IfErr result (λ fault. fault ≡ Fault.Memory) }

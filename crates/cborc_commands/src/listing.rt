@@ -1,6 +1,6 @@
 //! The lines of the events of the item at the start of some bytes.
 
-ghost use Rattle.std.specs.Prelude.{◌≡◌, ◌≤◌, ◌<◌, ◌+◌, ◌^◌, false, length, IfOk, IfErr};
+ghost use Rattle.std.specs.Prelude.{◌≡◌, ◌≤◌, ◌<◌, ◌+◌, ◌^◌, true, false, length, IfOk, IfErr};
 ghost use Rattle.cbor_listing.specs.Listing.{IsListingReason};
 ghost use Rattle.cborc_commands.specs.EventStyles.{AreListed, AreUnlisted};
 ghost use Rattle.cbor_head.specs.Complaint.{form};
@@ -10,8 +10,9 @@ ghost use Rattle.cborc_commands.specs.inner.Listed.{IsPrefixNotListed};
 use crate::fault::Fault;
 use cbor_head::{Limits, Reason, Refusal};
 use cbor_listing::{annotated, listing_from};
+use cbor_machine::{Machine, Out};
 use cborc_words::EventStyle;
-use std::io::{self, Write};
+use std::io::Write;
 
 /// Writes the lines of the item at the start of the bytes, which are at this offset of the input.
 /// Returns the item's number of bytes. The refusal is that of its form.
@@ -67,14 +68,17 @@ fn write_lines<W: Write>(
 /// Whether more bytes may change the verdict on the form of the item at the start: the bytes end
 /// within it or with it.
 pub fn is_undecided(bytes: &[u8], limits: Limits) -> bool
-    ensures { result ≡ false → IsDecided form limits bytes.now }
+    ensures undecided { result ≡ true → ¬ IsDecided form limits bytes.now }
+    ensures decided { result ≡ false → IsDecided form limits bytes.now }
 {
-    let mut reader = bytes;
-    match listing_from(&mut reader, 0, limits, &mut io::sink()) {
-        Ok(size) => size == bytes.len() as u64,
-        Err(refusal) => matches!(
-            refusal.reason,
-            Reason::Truncated | Reason::Read | Reason::Write
-        ),
+    let mut machine = Machine::new(limits);
+    'events: loop {
+        let step = machine.step(&bytes[machine.taken() as usize..]);
+        match step.out {
+            Out::Event(_) => {}
+            Out::Done => return machine.taken() == bytes.len() as u64,
+            Out::More => return true,
+            Out::Refused(_) => return false,
+        }
     }
 }

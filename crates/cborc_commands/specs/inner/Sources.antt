@@ -3,7 +3,7 @@ use Rattle.std.specs.Prelude.{ℕ, ◌+◌, ◌≡◌, ◌<◌, ◌++◌, nat_lt
 use Rattle.std.specs.List.{filter}
 use Rattle.hex.specs.Hex.{decode_of}
 use Rattle.cborc_files.specs.Digits.{DigitsView, Spells, SpellsOn, IsWhole}
-use Rattle.cborc_files.specs.Folder.{Files, Holds, IsThere, ReadsOn, KeepsFiles}
+use Rattle.cborc_files.specs.Folder.{Files, Holds, IsThere, IsMissing, ReadsOn, KeepsFiles}
 use Rattle.cborc_files.specs.Hex.{is_kept}
 use Rattle.cborc_commands.specs.declared.fault.Fault.TheVariants as faults
 use Rattle.cborc_commands.specs.{Input.IsInput, NoInput.IsNoInput, declared.fault.Fault.Fault, declared.source.Source.Source}
@@ -73,9 +73,9 @@ pub record IsHexErrorText (held : Option Files) (path : List ℕ) (s : Source) :
   pub holds : Holds held path whole
   pub hex_error : (text spelled : List ℕ) → Spells text spelled s.digits → IsErr (decode_of (filter is_kept (text ++ drop s.size whole)))
 
--- why there is no next part: the file cannot be read, it is not hex text, or it exists and memory was refused
+-- why there is no next part: no file exists at the path, the file is not hex text, or it exists and memory was refused
 abbrev pub IsNoPart : Option Files → List ℕ → Source → Fault → Type 0
-IsNoPart held path s (faults.CannotRead named) = named.now ≡ path
+IsNoPart held path s (faults.CannotRead named) = (named.now ≡ path) × IsMissing held path
 IsNoPart held path s (faults.NotHex named) = (named.now ≡ path) × IsHexErrorText held path s
 IsNoPart held path s faults.Memory = IsThere held path
 IsNoPart held path s _ = ⊥

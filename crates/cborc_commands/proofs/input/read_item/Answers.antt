@@ -27,6 +27,9 @@ returns-in_err-read_on-clause-fault g c =
     rw (p.1, p.2)
     (no_next_part (g.F.Folder.held c.args.files.now) _ c.args.path.now c.args.options.hex [] c.parts.parts c.parts.invariant.keeps c.parts.invariant.read _ c.in_err-read_on.ensures.fault)
 
+pub returns-in_err-read_on-clause-keeps : goal.returns-in_err-read_on-clause-keeps
+returns-in_err-read_on-clause-keeps g c = keeps_keeps _ _ _ c.parts.invariant.keeps c.read_on.ensures.keeps
+
 pub returns-then-not-more-clause-prefix : goal.returns-then-not-more-clause-prefix
 returns-then-not-more-clause-prefix g c =
     both_ok c.finish.result _ _ _

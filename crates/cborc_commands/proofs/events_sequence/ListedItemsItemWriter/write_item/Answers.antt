@@ -16,7 +16,7 @@ returns-in_err-size-clause-stopped g c =
     rw (p.1, p.2)
     (λ following ends. item_not_listed c.args.self.now.event_style c.args.start c.args.limits c.args.bytes.now _ _ _ c.in_ok-write_gap.ensures.written following
     (elim c.else-goes_on.branch [
-      | else-goes_on-via-then-goes_on+else-is_undecided w ↦ λ f v. inr ((w.is_undecided.ensures w.if-is_undecided.false).within f v)
+      | else-goes_on-via-then-goes_on+else-is_undecided w ↦ λ f v. inr ((w.is_undecided.ensures.decided w.if-is_undecided.false).within f v)
       | else-goes_on-via-else-goes_on w ↦ λ f v. inl (ends w.if-goes_on.false)
     ])
     _ c.in_err-size.ensures.fault)
