@@ -1,10 +1,10 @@
 #!/usr/bin/env bash
 # Tests the package for Go: scripts/test_go.sh [LIBRARY]
 #
-# Formats, go vet, the tests plain and under the race detector, each fuzz target for some seconds (FUZZ, 5 without it), the
-# archive of the module in a program of its own, and a target that has no assembly. With LIBRARY, a libnaltvigo.so, random
-# calls return what it returns. The kit and an installed library are not used. It needs Go 1.19 and a C compiler;
-# if there is no Go, the last line says so.
+# Formats, go vet, the tests plain and under the race detector (one test refuses each request of a checker for memory), each
+# fuzz target for some seconds (FUZZ, 5 without it), the archive of the module in a program of its own, and a target that
+# has no assembly. With LIBRARY, a libnaltvigo.so, random calls return what it returns. The kit and an installed library are
+# not used. It needs Go 1.19 and a C compiler; if there is no Go, the last line says so.
 set -euo pipefail
 . "$(dirname "${BASH_SOURCE[0]}")/lib/options.sh"
 . "$(dirname "${BASH_SOURCE[0]}")/lib/testing.sh"
