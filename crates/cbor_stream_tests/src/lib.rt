@@ -4,8 +4,6 @@
 #![tactic(auto)]
 
 #[cfg(test)]
-mod refusals;
-#[cfg(test)]
 mod tests;
 #[cfg(test)]
 mod whole_items;
