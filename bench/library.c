@@ -3,7 +3,8 @@
  * tables for each, in MB/s of processor time, the best of some calls; then the cost of a call on a small item, events, and the
  * check of canonical bytes in parts.
  * library --calls NAME ITEM MEMBERS TIMES: makes TIMES calls on a small item, or on an array of MEMBERS of it, for a
- * count of their instructions (small.py). */
+ * count of their instructions (small.py).
+ * library --call NAME FOLDER DOCUMENT: makes one call on FOLDER/DOCUMENT, for a count of its instructions (parts.py). */
 #define _POSIX_C_SOURCE 199309L
 #include "../c/options.h"
 #include "floor.h"
@@ -205,15 +206,14 @@ static void take_small(size_t i, size_t members) {
     out = (struct bytes){space, sizeof space};
 }
 
-/* Makes this number of calls on a small item, or on an array of this many of it. */
-static int repeat(const char *name, size_t item, size_t members, long times) {
+/* Makes this number of calls on the input, and returns 0 if each returns what it should. */
+static int repeat(const char *name, long times) {
     static const struct { const char *name; int (*call)(void); } calls[] = {
         {"canonicalise", canonicalise}, {"plain_canonicalise", plain_canonicalise},
         {"check_canonical", check_canonical}, {"plain_check_canonical", plain_check_canonical},
         {"check_valid", check_valid}, {"compare", compare}, {"diagnostic", diagnostic}, {"events", events_64},
+        {"checked_4096", checked_4096},
     };
-    if (members > MEMBERS) return 2;
-    take_small(item, members);
     for (size_t i = 0; i < sizeof calls / sizeof *calls; i++)
         if (strcmp(calls[i].name, name) == 0) {
             while (times-- > 0)
@@ -240,8 +240,16 @@ static void print_small(void) {
 }
 
 int main(int count, char **words) {
-    if (count == 6 && strcmp(words[1], "--calls") == 0)
-        return repeat(words[2], strtoul(words[3], NULL, 10), strtoul(words[4], NULL, 10), strtol(words[5], NULL, 10));
+    if (count == 6 && strcmp(words[1], "--calls") == 0) {
+        const size_t members = strtoul(words[4], NULL, 10);
+        if (members > MEMBERS) return 2;
+        take_small(strtoul(words[3], NULL, 10), members);
+        return repeat(words[2], strtol(words[5], NULL, 10));
+    }
+    if (count == 5 && strcmp(words[1], "--call") == 0) {
+        take_document(words[3], words[4]);
+        return repeat(words[2], 1);
+    }
     puts("| input | bytes | `canonicalise` | plain C | `check_canonical` | plain C | `check_valid` | `compare` |");
     puts("| --- | ---: | ---: | ---: | ---: | ---: | ---: | ---: |");
     for (int i = 2; i < count; i++) {

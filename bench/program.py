@@ -98,23 +98,30 @@ def print_instructions(cborc, folder):
         print(f"| {TITLES[name]} | {' | '.join(cells)} |", flush=True)
 
 
-def run(words, folder, out="stdout"):
-    """Runs the command, with its output in files of the folder."""
+def run(words, folder, out="stdout", piped=None):
+    """Runs the command, with its output in files of the folder. It reads PIPED, a file, from a pipe."""
     flags = os.O_WRONLY | os.O_CREAT | os.O_TRUNC
     file = lambda number, name: (os.POSIX_SPAWN_OPEN, number, os.path.join(folder, name), flags, 0o600)
+    actions = [file(1, out), file(2, "stderr")]
     began = perf_counter()
-    child = os.posix_spawn(words[0], words, {}, file_actions=[file(1, out), file(2, "stderr")])
+    source = subprocess.Popen(["cat", piped], stdout=subprocess.PIPE) if piped else None
+    if source:
+        actions.append((os.POSIX_SPAWN_DUP2, source.stdout.fileno(), 0))
+    child = os.posix_spawn(words[0], words, {}, file_actions=actions)
     _, status, used = os.wait4(child, 0)
     wall = perf_counter() - began
+    if source:
+        source.stdout.close()
+        source.wait()
     return Ran(os.waitstatus_to_exitcode(status), used.ru_utime + used.ru_stime, wall)
 
 
-def run_measured(words, folder, out="stdout"):
+def run_measured(words, folder, out="stdout", piped=None):
     """The same with the peak of memory, if GNU time is installed, whose own millisecond is counted too."""
     tool = shutil.which("time")
     if not tool:
-        return run(words, folder, out)
-    ran = run([tool, "-q", "-o", f"{folder}/peak", "-f", "%M", *words], folder, out)
+        return run(words, folder, out, piped)
+    ran = run([tool, "-q", "-o", f"{folder}/peak", "-f", "%M", *words], folder, out, piped)
     return ran._replace(peak=1024 * int(contents(f"{folder}/peak")))
 
 

@@ -12,8 +12,8 @@
 #          counts the instructions of canon, check and check --strict, and of plain C
 #          (instructions.py, plain.c, floor.c), by valgrind
 # library  builds the library for C, and times its calls in process, compared with plain C (library.c, floor.c)
-#          and libcbor, where Debian's libcbor-dev is installed; counts their instructions on small items,
-#          by valgrind (small.py), and the stack that they need (c/stack.c)
+#          and libcbor, where Debian's libcbor-dev is installed; counts their instructions on small items (small.py)
+#          and of the check in parts (parts.py), by valgrind, and the stack that they need (c/stack.c)
 # languages
 #          times the packages for Python, Go and JavaScript and the extensions for SQLite and PostgreSQL next to
 #          cbor2, fxamacker/cbor and JSON, as far as they are installed (bindings/python/bench.py, go.sh, web.sh,
@@ -91,6 +91,8 @@ library() {
         nested_many nested_keys keys_around_map bytes_16_mib
     printf '\n'
     python3 "$root/bench/small.py" "$scratch/library"
+    printf '\n'
+    python3 "$root/bench/parts.py" "$scratch/library" "$scratch/inputs" records texts text integers zeros map_100000 nested_many
     cc -O2 -o "$scratch/stack" "$root/c/stack.c" "-I$root/c" "-I$scratch/dist/include" "$scratch/dist/lib/libnaltvigo.a" -pthread
     printf '\n'
     "$scratch/stack"

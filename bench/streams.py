@@ -26,11 +26,11 @@ TIMES = 400
 GIB = 1 << 30
 
 
-def measure(name, words, folder, wanted, to="stdout"):
+def measure(name, words, folder, wanted, to="stdout", piped=None):
     """The quickest of some runs, each compared with the expected status and output."""
     runs = []
     while len(runs) < program.TURNS and all(it.processor <= program.LONG for it in runs):
-        runs.append(run_measured(words, folder, to))
+        runs.append(run_measured(words, folder, to, piped))
         found = (runs[-1].status, program.contents(os.path.join(folder, to)), program.contents(f"{folder}/stderr"))
         if found != wanted:
             faults.append(f"{name}: wanted {wanted}, found {found}")
@@ -80,18 +80,20 @@ def print_sequences(cborc, folder):
         file.write(b"\x9a" + count.to_bytes(4, "big"))
         shutil.copyfileobj(members, file)
     size = os.path.getsize(array)
+    accepted_whole, strict = b"accepted %d bytes\n" % size, ["check", "--strict", "--bytes", "400000000"]
     rows = [
         ("`check --seq`, in order", ["check", "--seq", ordered], accepted, "stdout"),
         ("`check --seq`, out of order", ["check", "--seq", unordered], accepted, "stdout"),
         ("`check --strict --seq`, in order", ["check", "--strict", "--seq", ordered], accepted, "stdout"),
-        ("`check --strict --bytes 400000000` of an array of them", ["check", "--strict", "--bytes", "400000000", array], b"accepted %d bytes\n" % size, "stdout"),
+        ("`check --strict --bytes 400000000` of an array of them", [*strict, array], accepted_whole, "stdout"),
+        ("the same, from a pipe", strict, accepted_whole, "stdout", array),
         ("`canon --seq`, out of order, to a file", ["canon", "--seq", unordered, f"{folder}/out"], b"", "stdout"),
         ("`show --seq`, in order, to `/dev/null`", ["show", "--seq", ordered], b"", "/dev/null"),
     ]
     title = f"{SIZE * count // 1_000_000} MB, {count:,} claims sets of {SIZE} bytes each, keys in order or not"
     print(f"\n| {title} | MB/s | peak memory, MiB |\n| --- | ---: | ---: |")
-    for name, words, out, to in rows:
-        ran = measure(name, [cborc, *words], folder, (0, out, b""), to)
+    for name, words, out, to, *piped in rows:
+        ran = measure(name, [cborc, *words], folder, (0, out, b""), to, *piped)
         print(f"| {name} | {program.speed(ran.processor, SIZE * count)} | {mebibytes(ran.peak)} |", flush=True)
     records = program.speed(program.least_time(cborc, folder, "records", "check"), os.path.getsize(f"{folder}/records.cbor"))
     print(f"\nFor comparison, `check` made {records} MB/s of records.")
@@ -110,6 +112,7 @@ def print_long(cborc, folder):
         ("zeros: `check --bytes 4000000000`", ["check", *within], b"", 1, b"", b"refused 12 Trailing at 1\n"),
         ("one byte string: `check --bytes 4000000000`", ["check", *within], string, 0, b"accepted %d bytes\n" % (GIB + 5), b""),
         ("one byte string: `check --strict --bytes 4000000000`", ["check", "--strict", *within], string, 0, b"accepted %d bytes\n" % (GIB + 5), b""),
+        ("the same, from a pipe", ["check", "--strict", *within], string, 0, b"accepted %d bytes\n" % (GIB + 5), b""),
         ("zeros: `check --seq`", ["check", "--seq"], b"", 0, b"accepted %d items\n" % GIB, b""),
     ]
     print("\n| a file of 1 GiB | result | processor time, s | wall time, s | peak memory, MiB |\n| --- | --- | ---: | ---: | ---: |")
@@ -117,7 +120,8 @@ def print_long(cborc, folder):
         with open(f"{folder}/long", "wb") as file:
             file.write(head)
             file.truncate(len(head) + GIB)
-        ran = measure(name, [cborc, *words, f"{folder}/long"], folder, (status, out, err))
+        file, piped = ([], f"{folder}/long") if name.endswith("from a pipe") else ([f"{folder}/long"], None)
+        ran = measure(name, [cborc, *words, *file], folder, (status, out, err), piped=piped)
         result = (out or err).decode().strip()
         print(f"| {name} | `{result}` | {ran.processor:.3f} | {ran.wall:.3f} | {mebibytes(ran.peak)} |", flush=True)
     os.remove(f"{folder}/long")

@@ -36,7 +36,12 @@ static int takes(struct naltvigo_checker *checker, const struct row *row, uint32
     free(part);
     check(are_equal(why, wanted), "refusal", row->given);
     check(from + used == (length > from ? length : from), "used", row->given);
-    return status == NALTVIGO_MORE;
+    if (status != NALTVIGO_MORE) return 0;
+    /* an end here is Truncated, and more bytes may follow */
+    check(naltvigo_checker_end(checker, &why) == NALTVIGO_REFUSED, "end amid", row->given);
+    wanted.reason = NALTVIGO_TRUNCATED, wanted.offset = wanted.consumed = to;
+    check(are_equal(why, wanted), "truncated amid", row->given);
+    return 1;
 }
 
 /* What is said where the bytes end, by the table, and of further bytes. */

@@ -3,8 +3,11 @@
  *
  * After each part a checker returns what naltvigo_next_canonical returns for all bytes so far, except that it returns MORE where
  * that call reports TRUNCATED. It does not matter where the item is cut into parts. So a receiver can hash or store an item as it
- * arrives, and refuses it at the first wrong byte. A checker needs little memory: the last key of each open map, all bytes of a
- * key that is not complete, and about 10 KiB.
+ * arrives, and refuses it at the first wrong byte.
+ *
+ * The memory of a checker is 10.3 KiB at any depth, 24 bytes for each open map, the last key of each open map, and all bytes of a
+ * key that is not complete. It is allocated for 16, 32, 64, .. open maps, so that 1,024 levels of maps need 24 KiB. The space for
+ * keys is doubled when it is full.
  *
  *     struct naltvigo_checker checker;
  *     struct naltvigo_refusal why;
@@ -80,7 +83,8 @@ static inline uint32_t naltvigo_checker_feed(struct naltvigo_checker *checker, c
 
 /*
  * naltvigo_checker_end: call it if no more bytes follow. If the item is not complete, it is REFUSED with TRUNCATED. The offset is
- * then the number of bytes consumed.
+ * then the number of bytes consumed. After TRUNCATED, more bytes may follow: naltvigo_checker_feed continues with them. Any other
+ * refusal stays until naltvigo_checker_restart.
  *
  * Returns OK, REFUSED (reasons 1 to 10, 14 to 16, 20), NO_MEMORY, BAD_MACHINE.
  */

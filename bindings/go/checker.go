@@ -10,12 +10,15 @@ import (
 
 // Checker checks that an item that arrives in parts of any length is in its canonical bytes. After each part it returns what
 // CheckCanonical returns for all bytes of the item so far, except that it returns nil where that is Truncated. It does not
-// matter where the item is cut into parts. So an item is refused at the first wrong byte. A Checker stores the last key of each
-// open map, the key that is not complete, and about 10 KiB, but no other byte of the item. If you have all bytes,
-// CheckCanonical is several times faster.
+// matter where the item is cut into parts. So an item is refused at the first wrong byte.
 //
-// After a refusal, each call returns the same refusal, until Restart. Its offset counts from the item's first byte. Its path is
-// always $, because the bytes are no longer there. After ErrMemory, call Restart, too.
+// A Checker stores the last key of each open map and the key that is not complete, but no other byte of the item. It also needs
+// 10.3 KiB at any depth, and 24 bytes for each open map (24 KiB at 1,024 levels). If you have all bytes, call CheckCanonical: a
+// Checker takes 1.2 to 2.2 times as long for records, and 6 to 16 times as long for single integers and for a large map of small
+// pairs.
+//
+// After a refusal other than Truncated, each call returns the same refusal, until Restart. Its offset counts from the item's
+// first byte. Its path is always $, because the bytes are no longer there. After ErrMemory, call Restart, too.
 //
 // NewChecker makes one, and Close frees it. One goroutine at a time may use it.
 type Checker struct {
@@ -76,7 +79,7 @@ func (checker *Checker) Complete() bool { return checker.state.complete }
 func (checker *Checker) Consumed() uint64 { return checker.state.consumed }
 
 // End is for the end of the input. It returns nil if and only if the item is complete and no byte after it was written. An item
-// that is not complete is refused as Truncated.
+// that is not complete is refused as Truncated. After Truncated, more bytes may follow. Any other refusal stays until Restart.
 func (checker *Checker) End() error {
 	state := checker.state
 	if state.trailing {

@@ -198,6 +198,23 @@ func TestARefusalStays(t *testing.T) {
 	}
 }
 
+// The end of an item that is not complete is Truncated at the number of bytes fed, and bytes that follow are taken.
+func TestEndOfAnUnfinishedItem(t *testing.T) {
+	checker := newChecker(t, nil)
+	item := "\xa2\x61a\x01\x61b\x82\x18\x64\x62\xc3\xa9" // {"a": 1, "b": [100, "é"]}
+	for fed := 0; fed < len(item); fed++ {
+		for range "ab" {
+			expectRefused(t, "End", checker.End(), refusal(Truncated, uint64(fed), uint64(fed)))
+		}
+		if used, err := checker.Write([]byte(item[fed : fed+1])); used != 1 || err != nil {
+			t.Fatal(fed, used, err)
+		}
+	}
+	if err := checker.End(); err != nil || !checker.Complete() {
+		t.Error(err)
+	}
+}
+
 func TestBytesAfterAnItem(t *testing.T) {
 	checker := newChecker(t, nil)
 	if used, err := checker.Feed([]byte("\x82\x01\x02\x03")); used != 3 || err != nil || !checker.Complete() {

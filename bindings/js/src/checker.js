@@ -100,9 +100,24 @@ class StrictCheck {
         throw this.#library.instance().refused(TRAILING, consumed, consumed, this.#given);
     }
 
+    /** Throws Truncated if the item is not complete. More bytes may follow. */
     end() {
         this.#throwError();
-        if (!this.isComplete) this.#settle(this.#usable().end());
+        if (this.isComplete) return;
+        const handle = this.#usable();
+        throw handle.instance.error(handle.end(), this.#given);
+    }
+
+    /** The same, but no more bytes may follow. */
+    close() {
+        try {
+            this.end();
+        } catch (error) {
+            this.#error ??= error;
+            throw error;
+        } finally {
+            this.#release();
+        }
     }
 
     free() {
@@ -181,7 +196,7 @@ export const checkerOf = library => class Checker {
         const check = this.#check;
         return new WritableStream({
             write: part => check.feedAll(bytesOf(part)),
-            close: () => check.end(),
+            close: () => check.close(),
             abort: () => check.free(),
         });
     }

@@ -112,10 +112,11 @@ export class Refused extends Error {
 /**
  * Checks an item whose bytes arrive in parts. After each part the result is that of `checkCanonical` for all bytes of the item
  * so far, except that `Truncated` is not thrown before `end`. It does not matter where the item is cut into parts. So a wrong
- * byte is refused when it arrives. A checker stores only the last key of each open map, and all of a key that is not complete.
+ * byte is refused when it arrives. A checker stores the last key of each open map and all of a key that is not complete, but no
+ * other byte of the item. It also needs 10.3 KiB at any depth, and 24 bytes for each open map.
  *
- * It uses memory of the module from the first part until the item is complete or refused, until `free`, or until it is
- * collected as garbage.
+ * It uses memory of the module from the first call of `feed` or `end` until the item is complete or refused, until `free`, or
+ * until it is collected as garbage.
  */
 export interface Checker {
     /** Whether the item is complete, and so canonical. */
@@ -128,7 +129,10 @@ export interface Checker {
      * Throws a `RangeError` if the engine has no more memory. If the memory was for a key, each call throws it until `restart`.
      */
     feed(part: Bytes): number;
-    /** For the end of the input. Throws `Refused` (1 Truncated, at `consumed`) if the item is not complete. */
+    /**
+     * For the end of the input. Throws `Refused` (1 Truncated, at `consumed`) if the item is not complete. After Truncated more
+     * bytes may follow: `feed` continues. After any other refusal, each call throws it again.
+     */
     end(): void;
     /** Begins another item. The item before it may be complete, refused or not complete. */
     restart(): void;
@@ -136,7 +140,8 @@ export interface Checker {
     free(): void;
     /**
      * A WritableStream that accepts exactly one item. A write is rejected with `Refused` at a wrong byte, or if bytes follow
-     * the item (12 Trailing). `close` is rejected if the item is not complete. `abort` calls `free`.
+     * the item (12 Trailing). `close` is rejected if the item is not complete, and then no more bytes may follow. `abort` calls
+     * `free`.
      */
     writable(): ByteSink;
 }

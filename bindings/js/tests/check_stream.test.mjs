@@ -74,7 +74,9 @@ test('a WritableStream: close waits for the end of the item, and abort frees the
     await writer.write(bytes('82'));
     await writer.write(bytes('00').buffer);
     writer.closed.catch(() => {});
-    await assert.rejects(writer.close(), error => error instanceof Refused && error.reasonName === 'Truncated' && error.offset === 2);
+    const isTruncated = error => error instanceof Refused && error.reasonName === 'Truncated' && error.offset === 2;
+    await assert.rejects(writer.close(), isTruncated);
+    for (const call of [() => checker.feed(bytes('00')), () => checker.end()]) assert.throws(call, isTruncated);
     const wrong = new Checker().writable().getWriter();
     wrong.closed.catch(() => {});
     wrong.ready.catch(() => {});

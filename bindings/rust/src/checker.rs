@@ -19,9 +19,12 @@ pub enum Checked {
 ///
 /// After each part it returns what [`check_canonical`](crate::check_canonical) returns for all bytes of the
 /// item so far, except that it returns [`Checked::More`] where that is `Truncated`. It does not matter where
-/// the item is cut into parts. So an item is refused at the first wrong byte. A `Checker` stores the last key
-/// of each open map, the key that is not complete, and about 10 KiB, but no other byte of the item. If you
-/// have all bytes, `check_canonical` is several times faster.
+/// the item is cut into parts. So an item is refused at the first wrong byte.
+///
+/// A `Checker` stores the last key of each open map and the key that is not complete, but no other byte of
+/// the item. It also needs 10.3 KiB at any depth, and 24 bytes for each open map (24 KiB at 1,024 levels). If
+/// you have all bytes, call `check_canonical`: a `Checker` takes 1.2 to 2.2 times as long for records, and 6
+/// to 16 times as long for single integers and for a large map of small pairs.
 ///
 /// ```
 /// use naltvigo::{Checked, Checker, Options, Reason};
@@ -119,7 +122,8 @@ impl Checker {
     }
 
     /// For the end of the input: returns the number of bytes of the item. If the item is not complete, it is
-    /// refused as [`Reason::Truncated`].
+    /// refused as [`Reason::Truncated`]. After that, more bytes may follow. Any other refusal stays until
+    /// [`restart`](Checker::restart).
     pub fn end(&mut self) -> Result<u64, Refused> {
         let mut refusal = raw::Refusal::default();
         // SAFETY: the library made the handle, and it is not freed.

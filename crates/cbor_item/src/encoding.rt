@@ -1,6 +1,6 @@
 //! Canonical bytes.
 
-ghost use Rattle.std.specs.Prelude.{◌≡◌, ◌↔◌, IsSome, IsTrue, IfSome, IfOk, IfErr, OnErr, option_map};
+ghost use Rattle.std.specs.Prelude.{◌≡◌, ◌↔◌, IsSome, IsTrue, IfSome, IfOk, IfErr, OnOk, OnErr, option_map};
 ghost use Rattle.cbor_head.specs.Canonical.{canonical};
 ghost use Rattle.cbor_head.specs.Value.{IsInRange, IsValid};
 ghost use Rattle.cbor_builder.specs.Built.{LeavesIfDistinct, TakesPart};
@@ -28,13 +28,16 @@ pub fn encode(alloc: Global, tree: &Tree, order: KeyOrder) -> Result<Vec<u8>, Re
 }
 
 /// Encodes as [`encode`] does, and records in `memory` whether a request for memory was refused. It fails only if one was.
+/// Pass a new `Memory` to learn whether this call was refused memory: if `memory` records a refusal already, the clause
+/// `request` says nothing.
 pub fn encode_in(
     memory: &mut Memory,
     alloc: Global,
     tree: &Tree,
     order: KeyOrder,
 ) -> Result<Vec<u8>, Refusal>
-    ensures memory { OnErr result (IsTrue memory.new) }
+    ensures request { OnErr result (IsTrue memory.new) }
+    ensures kept { OnOk result (memory.new ≡ memory.old) }
     ensures bytes { IfOk result (λ bytes. bytes.items ≡ canonical order (view tree.now)) }
     ensures refused { IfErr result (λ refusal. refusal ≡ no_memory) }
 {
@@ -55,6 +58,7 @@ pub(crate) fn encode_distinct<N: Node>(
     order: KeyOrder,
 ) -> Result<Option<Vec<u8>>, AllocError>
     requires { IsInRange (N.value node.now) }
+    ensures kept { OnOk result (memory.new ≡ memory.old) }
     ensures refused { OnErr result (IsTrue memory.new) }
     ensures valid { IfOk result (λ bytes. IsSome bytes ↔ IsValid (N.value node.now)) }
     ensures bytes { IfOk result (λ bytes.
@@ -92,6 +96,7 @@ fn end_if_distinct(
     builder: &mut CanonBuilder,
 ) -> Result<Option<Repeat>, AllocError>
     requires { IsInContainer builder.old.open_levels }
+    ensures kept { OnOk result (memory.new ≡ memory.old) }
     ensures refused { OnErr result (IsTrue memory.new) }
     ensures ends { LeavesIfDistinct result builder.old builder.new
         (close builder.old.order builder.old.open_levels) }
@@ -108,6 +113,7 @@ fn begin<'a, N: Node>(
 ) -> Result<Option<Rest<'a, N>>, AllocError>
     requires takes { TakesPart builder.old.open_levels }
     requires in_range { IsInRange (N.value node.now) }
+    ensures kept { OnOk result (memory.new ≡ memory.old) }
     ensures refused { OnErr result (IsTrue memory.new) }
     ensures order { IfOk result (λ _. builder.new.order ≡ builder.old.order) }
     ensures begun { IfOk result (λ content. IsBegun builder.old.order (N.value node.now)

@@ -33,10 +33,12 @@ impl View<'_> {
     }
 
     /// Copies the item as [`to_item`](View::to_item) does, and records in `memory` whether a request for memory was
-    /// refused. It fails only if one was.
+    /// refused. It fails only if one was. Pass a new `Memory` to learn whether this call was refused memory: if `memory`
+    /// records a refusal already, the clause `request` says nothing.
     pub fn to_item_in(&self, memory: &mut Memory, alloc: Global) -> Result<Item, AllocError>
         requires { IsInRange (view_value self.now) }
-        ensures memory { OnErr result (IsTrue memory.new) }
+        ensures request { OnErr result (IsTrue memory.new) }
+        ensures kept { OnOk result (memory.new ≡ memory.old) }
         ensures item { IfOk result (λ item. value_of item ≡ view_value self.now) }
     {
         item_of(memory, alloc, self)
@@ -54,12 +56,14 @@ impl View<'_> {
     }
 
     /// Copies the item as [`to_tree`](View::to_tree) does, and records in `memory` whether a request for memory was
-    /// refused. It fails only if one was.
+    /// refused. It fails only if one was. Pass a new `Memory` to learn whether this call was refused memory: if `memory`
+    /// records a refusal already, the clause `request` says nothing.
     pub fn to_tree_in(&self, memory: &mut Memory, alloc: Global) -> Result<Tree, Refusal>
         requires depth { depth (view_value self.now) ≤ MAX_DEPTH }
         requires in_range { IsInRange (view_value self.now) }
         requires valid { IsValid (view_value self.now) }
-        ensures memory { OnErr result (IsTrue memory.new) }
+        ensures request { OnErr result (IsTrue memory.new) }
+        ensures kept { OnOk result (memory.new ≡ memory.old) }
         ensures tree { IfOk result (λ tree. value_of tree ≡ view_value self.now) }
         ensures refused { IfErr result (λ f. f ≡ no_memory) }
     {
@@ -73,6 +77,7 @@ impl View<'_> {
 // What is open is in a list and not on the stack, so a node may have any depth.
 fn item_of<N: Node>(memory: &mut Memory, alloc: Global, node: &N) -> Result<Item, AllocError>
     requires { IsInRange (N.value node.now) }
+    ensures kept { OnOk result (memory.new ≡ memory.old) }
     ensures refused { OnErr result (IsTrue memory.new) }
     ensures item { IfOk result (λ item. value_of item ≡ N.value node.now) }
 {
@@ -110,6 +115,7 @@ fn begin<'a, N: Node>(
 ) -> Result<Option<Rest<'a, N>>, AllocError>
     requires takes { TakesValue (open_levels builder.old) }
     requires in_range { IsInRange (N.value node.now) }
+    ensures kept { OnOk result (memory.new ≡ memory.old) }
     ensures refused { OnErr result (IsTrue memory.new) }
     ensures begun { IfOk result (λ content. IsBegun (N.value node.now) (open_levels builder.old)
         (open_levels builder.new) (option_map (left N.value) content)) }
@@ -148,6 +154,7 @@ fn begin<'a, N: Node>(
 // Adds a complete member. A refused request is recorded, as in the next two.
 fn leaf(memory: &mut Memory, builder: &mut TreeBuilder, item: Item) -> Result<(), AllocError>
     requires { TakesValue (open_levels builder.old) }
+    ensures kept { OnOk result (memory.new ≡ memory.old) }
     ensures refused { OnErr result (IsTrue memory.new) }
     ensures given { OnOk result (open_levels builder.new ≡ give (value_of item) (open_levels builder.old)) }
 {
@@ -163,6 +170,7 @@ fn open(
 ) -> Result<(), AllocError>
     requires kind { IsContainer major }
     requires takes { TakesValue (open_levels builder.old) }
+    ensures kept { OnOk result (memory.new ≡ memory.old) }
     ensures refused { OnErr result (IsTrue memory.new) }
     ensures opened { OnOk result (open_levels builder.new ≡ opened major number ∷ open_levels builder.old) }
 {
@@ -172,6 +180,7 @@ fn open(
 
 fn end(memory: &mut Memory, builder: &mut TreeBuilder) -> Result<(), AllocError>
     requires { MayEnd (open_levels builder.old) }
+    ensures kept { OnOk result (memory.new ≡ memory.old) }
     ensures refused { OnErr result (IsTrue memory.new) }
     ensures closed { OnOk result (open_levels builder.new ≡ close (open_levels builder.old)) }
 {

@@ -1,6 +1,6 @@
 //! Items of bounded depth without equal keys.
 
-ghost use Rattle.std.specs.Prelude.{◌≡◌, ◌≤◌, IsTrue, IfOk, IfErr};
+ghost use Rattle.std.specs.Prelude.{◌≡◌, ◌≤◌, IsTrue, IfOk, IfErr, OnOk};
 ghost use Rattle.cbor_head.specs.Value.{depth, IsInRange, IsValid};
 ghost use Rattle.cbor_head.specs.declared.limits.TheConstants.{MAX_DEPTH};
 ghost use Rattle.cbor_item.specs.Refused.{Refuses};
@@ -55,9 +55,11 @@ impl Tree {
     }
 
     /// Makes a tree as [`of`](Tree::of) does, and records in `memory` whether a request for memory was refused. The
-    /// reason is `Memory` only if one was.
+    /// reason is `Memory` only if one was. Pass a new `Memory` to learn whether this call was refused memory: if `memory`
+    /// records a refusal already, the clause `request` says nothing.
     pub fn of_in(memory: &mut Memory, alloc: Global, item: Item) -> Result<Tree, (Item, Reason)>
-        ensures memory { IfErr result (λ e. e.1 ≡ Reason.Memory → IsTrue memory.new) }
+        ensures request { IfErr result (λ e. e.1 ≡ Reason.Memory → IsTrue memory.new) }
+        ensures kept { OnOk result (memory.new ≡ memory.old) }
         ensures tree { IfOk result (λ tree. tree ≡ item) }
         ensures accepted { IfOk result
             (λ _. (depth (view item) ≤ MAX_DEPTH) × IsInRange (view item) × IsValid (view item)) }

@@ -1,6 +1,6 @@
 //! Items from their parts, without recursion.
 
-ghost use Rattle.std.specs.Prelude.{◌≡◌, ◌∷◌, [], List, IsTrue, OnOk, OnErr, false};
+ghost use Rattle.std.specs.Prelude.{◌≡◌, ◌∷◌, [], IsTrue, OnOk, OnErr, false};
 ghost use Rattle.cbor_head.specs.Value.{Value};
 ghost use Rattle.cbor_builder.specs.Built.{IsContainer};
 ghost use Rattle.cbor_item.specs.OpenValues.{the_whole, opened, give, close, run, parts_of};

@@ -1,6 +1,6 @@
 //! Views from their parts, without recursion.
 
-ghost use Rattle.std.specs.Prelude.{◌≡◌, ◌∷◌, [], List, OnOk, OnErr, IfOk, IsSome, IsTrue, Some, false};
+ghost use Rattle.std.specs.Prelude.{◌≡◌, ◌∷◌, [], OnOk, OnErr, IfOk, IsTrue, Some, false};
 ghost use Rattle.std.specs.Prelude.{MatchResult};
 ghost use Rattle.cbor_head.specs.Value.{Value, bytes, text};
 ghost use Rattle.cbor_builder.specs.Built.{IsContainer};

@@ -1,6 +1,6 @@
 //! Writes canonical bytes.
 
-ghost use Rattle.std.specs.Prelude.{◌≡◌, ◌<◌, length, take, IfErr, IsTrue, MatchResult};
+ghost use Rattle.std.specs.Prelude.{◌≡◌, ◌<◌, length, take, IfErr, OnOk, IsTrue, MatchResult};
 ghost use Rattle.std.specs.Io.KnownBytes.{Appends};
 ghost use Rattle.cbor_head.specs.Canonical.{canonical};
 ghost use Rattle.cbor_item.specs.Sent.{Sends};
@@ -32,7 +32,8 @@ pub fn encode_to<W: Write>(
 }
 
 /// Writes the canonical bytes as [`encode_to`] does, and records in `memory` whether a request for memory was refused. The
-/// refusal is `Memory` only if one was.
+/// refusal is `Memory` only if one was. Pass a new `Memory` to learn whether this call was refused memory: if `memory`
+/// records a refusal already, the clause `request` says nothing.
 pub fn encode_to_in<W: Write>(
     memory: &mut Memory,
     alloc: Global,
@@ -40,7 +41,8 @@ pub fn encode_to_in<W: Write>(
     order: KeyOrder,
     writer: &mut W,
 ) -> Result<u64, Refusal>
-    ensures memory { IfErr result (λ f. f.reason ≡ Reason.Memory → IsTrue memory.new) }
+    ensures request { IfErr result (λ f. f.reason ≡ Reason.Memory → IsTrue memory.new) }
+    ensures kept { OnOk result (memory.new ≡ memory.old) }
     ensures sends { Sends (W.contents writer.old) (W.contents writer.new)
         (canonical order (view tree.now)) result }
 {

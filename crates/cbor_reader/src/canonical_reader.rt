@@ -41,7 +41,8 @@ pub fn read_canonical<'a>(
 }
 
 /// Returns what [`read_canonical`] returns, and records in `memory` whether a request for memory was refused. If none was,
-/// the refusal is not `Memory`.
+/// the refusal is not `Memory`. Pass a new `Memory` to learn whether this call was refused memory: if `memory` records a
+/// refusal already, the clause `request` says nothing.
 #[inline(always)]
 pub fn read_canonical_in<'a>(
     memory: &mut Memory,

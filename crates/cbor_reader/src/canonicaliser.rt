@@ -43,7 +43,8 @@ pub fn canonicalise(
 }
 
 /// Returns what [`canonicalise`] returns, and records in `memory` whether a request for memory was refused. If none was,
-/// the refusal is not `Memory`.
+/// the refusal is not `Memory`. Pass a new `Memory` to learn whether this call was refused memory: if `memory` records a
+/// refusal already, the clause `request` says nothing.
 pub fn canonicalise_in(
     memory: &mut Memory,
     alloc: Global,
@@ -95,7 +96,8 @@ pub fn canonical_bytes<'a>(
 }
 
 /// Returns what [`canonical_bytes`] returns, and records in `memory` whether a request for memory was refused. If none was,
-/// the refusal is not `Memory`.
+/// the refusal is not `Memory`. Pass a new `Memory` to learn whether this call was refused memory: if `memory` records a
+/// refusal already, the clause `request` says nothing.
 pub fn canonical_bytes_in<'a>(
     memory: &mut Memory,
     alloc: Global,

@@ -70,7 +70,8 @@ pub fn same_meaning(
 }
 
 /// Compares two inputs as [`same_meaning`] does, and records for each whether a request for memory was refused. The
-/// refusal of an input is not `Memory` if none was refused for it.
+/// refusal of an input is not `Memory` if none was refused for it. Pass two new `Memory`s to learn whether this call was
+/// refused memory: if the `Memory` of an input records a refusal already, the clause `request` says nothing about it.
 pub fn same_meaning_in(
     left_memory: &mut Memory,
     right_memory: &mut Memory,

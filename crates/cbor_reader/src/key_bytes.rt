@@ -33,7 +33,7 @@ impl KeyBytes {
         }
     }
 
-    /// Removes all keys and keeps the memory, whatever was called before.
+    /// Removes all keys, whatever was called before. Its buffers stay allocated.
     pub(crate) fn clear(&mut self)
         ensures { keys_agree self.new self.new (item_expected []) }
     {

@@ -33,7 +33,8 @@ pub fn check_valid(alloc: Global, bytes: &[u8], limits: Limits) -> Result<u64, R
 }
 
 /// Checks an item as [`check_valid`] does, and records in `memory` whether a request for memory was refused. If none was,
-/// the refusal is not `Memory`.
+/// the refusal is not `Memory`. Pass a new `Memory` to learn whether this call was refused memory: if `memory` records a
+/// refusal already, the clause `request` says nothing.
 pub fn check_valid_in(
     memory: &mut Memory,
     alloc: Global,

@@ -114,7 +114,7 @@ module _ (old now new : StrictMachineView) (input : List ℕ) (used more : ℕ) 
       go outs.Done none a some reason =
           let all = sym (append-nil (t ++ take used input)) ∙ ap (λ (x : List ℕ). (t ++ take used input) ++ x) (sym a.0) in
           says_done new ((t ++ take used input) ++ take more (rest_from used input)) (h.runs t ms k).0 (subst (λ (x : List ℕ). AgreesAmid new x (h.runs t ms k).0) all a.2) a.1
-      go (outs.Refused f) none a some reason = says_refused new ((t ++ take used input) ++ take more (rest_from used input)) f a (subst (λ (o : KeyOrder). IsStrictReason o f.reason) (sym order) reason)
+      go (outs.Refused f) none a some reason = says_refused new ((t ++ take used input) ++ take more (rest_from used input)) f (h.runs t ms k).0 a (subst (λ (o : KeyOrder). IsStrictReason o f.reason) (sym order) reason)
 
 -- ---- where the bytes end
 
@@ -140,7 +140,7 @@ module _ (old new : StrictMachineView) (limits : KeepsLimits old.machine new.mac
 
     pub ends_refused : (f : Refusal) → IsStrictResult (outs.Refused f) new t bs ms → IsStrictReason old.order f.reason → EndsAs (limits_of old) old.order t (Err f)
     ends_refused f a reason = λ m.
-        let s = says_refused new (t ++ bs) f a (subst (λ (o : KeyOrder). IsStrictReason o f.reason) (sym order) reason) in
+        let s = says_refused new (t ++ bs) f ms a (subst (λ (o : KeyOrder). IsStrictReason o f.reason) (sym order) reason) in
         as_old t (Err f) (λ k. subst (λ (x : List ℕ). Tells (limits_of new) new.order x (Err f)) (append-nil (t ++ bs) ∙ all_so) (s.1 k [])) m
 
     pub ends_more : (f : Refusal) → f ≡ refusal Truncated (length t) (length t) → 0 < wanted new.machine → IsStrictResult outs.More new t bs ms → EndsAs (limits_of old) old.order t (Err f)

@@ -123,7 +123,7 @@ pub result_joined : (out : Out) (m : MachineView) (v : OpenItems) (b : Bounds) (
 result_joined outs.More m v b t xs ys ms going h = subst (λ (x : List ℕ). IsAmid m v b x ms) (append_assoc t xs ys) h
 result_joined (outs.Event e) m v b t xs ys ms going h = (given_joined e m t xs ys ms h.0, subst (λ (x : List ℕ). IsAmid m v b x (ms ++ marks_of e.width e.kind)) (append_assoc t xs ys) h.1)
 result_joined outs.Done m v b t xs ys ms going h = absurd (going tt)
-result_joined (outs.Refused f) m v b t xs ys ms going h = subst (IsRefusedNow f v b) (append_assoc t xs ys) h
+result_joined (outs.Refused f) m v b t xs ys ms going h = subst (λ (x : List ℕ). IsRefusedNow f m v b x ms) (append_assoc t xs ys) h
 
 -- what came since the last event, as each that says so has it
 pub since_longer : (m n : MachineView) (v w : OpenItems) (b : Bounds) (t xs : List ℕ) (ms : List Mark) (a : IsAmid m v b t ms) (c : IsAmid n w b (t ++ xs) ms) → 0 < length xs → 0 < length c.since

@@ -84,5 +84,5 @@ module _ (v : StrictMachineView) (t : List ℕ) where
         ((ms, h), λ more. (read more, prefix_read b v.order (t ++ more) (length t) (read more)))
 
   -- it is refused
-  pub says_refused : (f : Refusal) → IsStrictlyRefused f v t → IsStrictReason v.order f.reason → SaysRefused f v t
-  says_refused f n reason = (n, λ m more. verdict_only b r (t ++ more) f (n.unread more) (no_read v.order f.reason reason) m)
+  pub says_refused : (f : Refusal) (ms : List Mark) → IsStrictlyRefused f v t ms → IsStrictReason v.order f.reason → SaysRefused f v t
+  says_refused f ms n reason = ((ms, n), λ m more. verdict_only b r (t ++ more) f (n.unread more) (no_read v.order f.reason reason) m)

@@ -116,9 +116,10 @@ module _ (m new : MachineView) (v w : OpenItems) (keys : Keys) (limits : KeepsLi
   result_so outs.Done t bs ms live a = (a.0, a.1, there t ms a.2)
   result_so (outs.Refused f) t bs ms live a = absurd live
 
-  pub refused_so : (f : Refusal) (last : LastKeys) (all : List ℕ) → IsRefusedNow f w (bounds_of m keys) all → IsStrictlyRefused f (shown new (record w { keys = last }) keys (Some f)) all
-  refused_so f last all n = record {
+  pub refused_so : (f : Refusal) (last : LastKeys) (all : List ℕ) (ms : List Mark) → IsRefusedNow f new w (bounds_of m keys) all ms → IsStrictlyRefused f (shown new (record w { keys = last }) keys (Some f)) all ms
+  refused_so f last all ms n = record {
     read = n.read;
+    at_once = n.at_once;
     unread = λ more. subst (λ (b : Bounds). IsUnread b (strict w.order) (all ++ more) f) (same_bounds m new keys limits) (n.unread more);
   }
 

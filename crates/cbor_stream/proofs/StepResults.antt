@@ -1,6 +1,6 @@
 -- What a step returns: that of all bytes so far, whatever follows.
-use Rattle.std.proofs.Common.{◌≡◌, ◌≢◌, ℕ, ◌+◌, ◌/◌, ◌<◌, ◌≤◌, ◌↔◌, Bool, true, false, IsTrue, Option, Some, None, Ok, Err, List, [], ◌∷◌, ◌++◌, length, refl, sym, ap, ◌∙◌, subst, inl, inr, arith, append_assoc, append-nil, length-append, length-take, take_all}
-use Rattle.std.{specs.Io.KnownBytes.Consumes, proofs.lemmas.List.nil_from_length}
+use Rattle.std.proofs.Common.{◌≡◌, ◌≢◌, ℕ, ◌+◌, ◌/◌, ◌<◌, ◌≤◌, ◌↔◌, Bool, true, false, IsTrue, Option, Some, None, Ok, Err, List, [], ◌∷◌, ◌++◌, length, refl, sym, ap, ◌∙◌, subst, inl, inr, arith, append_assoc, append-nil, length-append, length-take, take, take_all, ◌⊎◌}
+use Rattle.std.{specs.Io.KnownBytes.Consumes, proofs.lemmas.List.nil_from_length, proofs.lemmas.List.take_at}
 use Rattle.cbor_head.specs.Prelude.{Bounds, AreBytes, IsBeginning, strict, refusal}
 use Rattle.cbor_head.specs.declared.reason.Reason.TheVariants.{Truncated, Read, KeyKind}
 use Rattle.cbor_head.specs.declared.{event.EventKind.TheVariants.Piece, order.KeyOrder.KeyOrder, reason.Refusal.Refusal, reason.Reason.Reason}
@@ -8,9 +8,9 @@ use Rattle.cbor_head.specs.declared.event.{Event.Event, EventKind.EventKind}
 use Rattle.theory_values.{specs.FirstBytes.is_basic, proofs.ByteLists.bytes_join}
 use Rattle.theory_automaton.specs.{Reasons.IsMachineReason, Reasons.IsEventReason, Bytes.IsEventBytes, Pieces.piece_by, Trace.Mark}
 use Rattle.theory_automaton.proofs.{Runs.run-on, Beginnings.reached-begins}
-use Rattle.cbor_machine.specs.NextEvent.{ItemEventsView, AgreesBetween, Call, call, IsNext, IsNextEvent, IsKept as IsPieceKept}
+use Rattle.cbor_machine.specs.NextEvent.{ItemEventsView, AgreesBetween, Call, call, IsNext, IsNextEvent, IsTooLong, HasFormError, IsKept as IsPieceKept}
 use Rattle.cbor_machine.specs.NextKey.{IsBasicKind, IsAfterBasic, IsOtherKey, IsNextOf, IsKeyReason}
-use Rattle.cbor_machine.specs.Machine.{Represents, KeepsLimits, IsComplete, IsGiven, IsRefused, IsResult, IsDone, IfRefused}
+use Rattle.cbor_machine.specs.Machine.{Represents, KeepsLimits, IsComplete, IsGiven, IsRefused, IsResult, IsDone, IfRefused, before}
 use Rattle.cbor_machine.specs.declared.step.Out.TheVariants as outs
 use Rattle.cbor_machine.{specs.Steps.IsStep, specs.State.state_of, specs.MachineView.MachineView, specs.declared.step.Out.Out, proofs.NextEvents.event-here}
 use Rattle.cbor_machine.proofs.NextRefusals.{still-expected, stopped-here}
@@ -18,8 +18,10 @@ use Rattle.theory_verdicts.specs.{RefusedAfter.IsRefusedAfter, Readers.IsUnread,
 use Rattle.theory_verdicts.proofs.{Payloads.IsPiece, Steps.SameLimits}
 use Rattle.cbor_strict.specs.inner.OpenItems.{Agrees, IsEventCome, ReturnsEvent}
 use Rattle.cbor_strict.proofs.Admitted.{event_come, event_admitted, event_refused}
-use Rattle.cbor_strict.{specs.declared.open_items.OpenItems.OpenItems, specs.inner.StrictEvents.GoesOn, proofs.StrictStops.stopped_there}
+use Rattle.cbor_strict.specs.{declared.open_items.OpenItems.OpenItems, inner.StrictEvents.GoesOn, StrictReader.IsAgainstEvent}
+use Rattle.cbor_strict.proofs.StrictStops.{stopped_there}
 use Rattle.cbor_stream.specs.inner.Amid.{IsAmid, IsTaken, IsRefusedNow, IsStepResult, asks_of}
+use Rattle.cbor_stream.specs.AtOnce.{AreMarksWithin, IsAtOnce, at_place, withheld}
 use Rattle.cbor_stream.proofs.Amid.{amid_represents, amid_bytes, has_read}
 use Rattle.cbor_stream.proofs.KeyKinds.{HasStart, kind_so, kind_goes_on, after_so}
 use Rattle.cbor_stream.proofs.Asking.{asked_so}
@@ -51,6 +53,10 @@ piece_so (Piece n) i kept since bs bytes e k =
     sym (all ∙ ap (λ (x : List ℕ). x ++ bs) none)
 piece_so _ i kept since bs bytes e k = absurd i
 
+-- what a machine reported
+marks_of_machine : (m : MachineView) (t : List ℕ) (ms : List Mark) → Represents m t ms → AreMarksWithin m.depth t ms
+marks_of_machine m t ms h = record { beginning = h.beginning; are = λ s i. h.reported s i.0 i.1 }
+
 module _ (m new : MachineView) (v : OpenItems) (b : Bounds) (t bs : List ℕ) (ms : List Mark) (a : IsAmid m v b t ms) (limits : KeepsLimits m new) (are : AreBytes bs) where
   abbrev asked : Bool
   asked = asks_of b.keys v
@@ -75,9 +81,10 @@ module _ (m new : MachineView) (v : OpenItems) (b : Bounds) (t bs : List ℕ) (m
   along more = sym (append_assoc a.before a.since (bs ++ more)) ∙ ap (λ (x : List ℕ). x ++ (bs ++ more)) (sym a.splits) ∙ sym (append_assoc t bs more)
 
   -- what is refused there is refused
-  refused_now : (f : Refusal) (w : OpenItems) → w.order ≡ v.order → ((more : List ℕ) → IsRefusedAfter (strict v.order) b a.before (held more) (Some more) f) → IsRefusedNow f w b (t ++ bs)
-  refused_now f w order h = record {
+  refused_now : (f : Refusal) (w : OpenItems) → w.order ≡ v.order → IsAtOnce v.order f new (t ++ bs) ms → ((more : List ℕ) → IsRefusedAfter (strict v.order) b a.before (held more) (Some more) f) → IsRefusedNow f new w b (t ++ bs) ms
+  refused_now f w order at_once h = record {
     read = (h []).read ∙ ap length (there (h []).bytes (cut_off (h []).bytes (h []).consumed));
+    at_once = subst (λ (o : KeyOrder). IsAtOnce o f new (t ++ bs) ms) (sym order) at_once;
     reason = subst (λ (o : KeyOrder). IsReaderReason b (strict o) f.reason) (sym order) (h []).reason;
     unread = λ more. subst (λ (o : KeyOrder). IsUnread b (strict o) ((t ++ bs) ++ more) f) (sym order) (subst (λ (x : List ℕ). IsUnread b (strict v.order) x f) (along more) (h more).unread);
   }
@@ -134,25 +141,47 @@ module _ (m new : MachineView) (v : OpenItems) (b : Bounds) (t bs : List ℕ) (m
             )
 
         -- a complaint ends with it, or memory is refused
-        pub event_withheld : (f : Refusal) → ReturnsEvent v w ev bs count taken (Err f) → IsRefusedNow f w b (t ++ bs)
-        event_withheld f ans =
-            refused_now f w order (λ more. (event_refused v b a.began after a.before (held more) (Some more) same_limits refl asked (Some ev) (returned more) ev refl bs piece_is count taken counted all a.agrees w b.keys refl (asked_so b.keys v) order a.keeps f ans).1)
+        pub event_withheld : (f : Refusal) → IsAgainstEvent v.order f.reason → ReturnsEvent v w ev bs count taken (Err f) → IsRefusedNow f new w b (t ++ bs) ms
+        event_withheld f against ans =
+            let it = given t ms (amid_represents m v b t ms a) in
+            refused_now f w order (withheld ev.width ev.kind against (record { agrees = it.agrees; whole = it.ends })) (λ more. (event_refused v b a.began after a.before (held more) (Some more) same_limits refl asked (Some ev) (returned more) ev refl bs piece_is count taken counted all a.agrees w b.keys refl (asked_so b.keys v) order a.keeps f ans).1)
 
   -- ---- a refusal
+
+  -- what is reported are all events before its offset
+  ends_none : (f : Refusal) → f.read ≤ f.place + 1 → (p : List ℕ) → take f.place (t ++ bs) ≡ p → AreMarksWithin new.depth p ms → IsAtOnce v.order f new (t ++ bs) ms
+  ends_none f near p e h = at_place near (subst (λ (x : List ℕ). AreMarksWithin new.depth x ms) (sym e) h)
 
   abbrev stopped : ItemEventsView
   stopped = record { machine = new; piece = []; refusal = None }
 
   -- no head is complete, and none may be
   module _ (f : Refusal) (taken : new.taken ≡ f.read) where
-    at_machine : IsKeyReason f.reason → ((more : List ℕ) → a.began.refusal ≡ None → (u : List ℕ) (ns : List Mark) → AgreesBetween a.began.machine u ns → IsNextOf asked (Err f) (call a.began stopped (held more) (Some more) u ns)) → IsRefusedNow f v b (t ++ bs)
-    at_machine reason next =
-        refused_now f v refl (λ more. (stopped_there v b a.began stopped a.before (held more) (Some more) f asked b.keys same_limits reason taken limits.taken (asked_so b.keys v) refl a.agrees a.keeps (next more)).1)
+    at_machine : IsKeyReason f.reason → IsAtOnce v.order f new (t ++ bs) ms → ((more : List ℕ) → a.began.refusal ≡ None → (u : List ℕ) (ns : List Mark) → AgreesBetween a.began.machine u ns → IsNextOf asked (Err f) (call a.began stopped (held more) (Some more) u ns)) → IsRefusedNow f new v b (t ++ bs) ms
+    at_machine reason at_once next =
+        refused_now f v refl at_once (λ more. (stopped_there v b a.began stopped a.before (held more) (Some more) f asked b.keys same_limits reason taken limits.taken (asked_so b.keys v) refl a.agrees a.keeps (next more)).1)
+
+    -- no event ends before a byte that is refused, and none at the limit
+    form_at_once : IsTooLong f (call a.began stopped (held []) (Some []) a.before ms) ⊎ HasFormError f (call a.began stopped (held []) (Some []) a.before ms) → IsAtOnce v.order f new (t ++ bs) ms
+    form_at_once (inl k) =
+        let all = there k.bytes (cut_off k.bytes k.consumed) in
+        let place : f.place ≡ new.bytes = ap (λ (y : Refusal). y.place) k.is in
+        let read : f.read ≡ new.bytes = ap (λ (y : Refusal). y.read) k.is in
+        ends_none f (omega (arith, place, read)) (t ++ bs) (take_all f.place (t ++ bs) (omega (arith, place, k.full, ap length all)))
+        (subst (λ (x : List ℕ). AreMarksWithin new.depth x ms) all (marks_of_machine (before new (length (a.before ++ k.bytes))) (a.before ++ k.bytes) ms k.agrees))
+    form_at_once (inr k) =
+        let p = a.before ++ k.bytes in
+        let all : p ++ k.byte ∷ [] ≡ t ++ bs = append_assoc a.before k.bytes (k.byte ∷ []) ∙ there (k.bytes ++ k.byte ∷ []) (cut_off (k.bytes ++ k.byte ∷ []) k.consumed) in
+        let place : f.place ≡ length p = ap (λ (y : Refusal). y.place) k.is in
+        let read : f.read ≡ length p + 1 = ap (λ (y : Refusal). y.read) k.is in
+        ends_none f (omega (arith, place, read)) p (ap (take f.place) (sym all) ∙ take_at p (k.byte ∷ []) f.place (sym place)) (marks_of_machine (before new (length p)) p ms k.agrees)
 
     -- a byte is refused, or the limit is reached
-    pub machine_refused : ¬ IsComplete m → m.taken + length bs ≤ new.bytes → ((u : List ℕ) (ns : List Mark) → Represents m u ns → IsRefused f new u bs ns) → IsStep (outs.Refused f) m new bs → IsMachineReason f.reason → HasStart (m.taken < f.place) asked a.since bs → IsRefusedNow f v b (t ++ bs)
+    pub machine_refused : ¬ IsComplete m → m.taken + length bs ≤ new.bytes → ((u : List ℕ) (ns : List Mark) → Represents m u ns → IsRefused f new u bs ns) → IsStep (outs.Refused f) m new bs → IsMachineReason f.reason → HasStart (m.taken < f.place) asked a.since bs → IsRefusedNow f new v b (t ++ bs) ms
     machine_refused going fits refused step reason start =
-        at_machine (inl (machine_event f.reason reason)) (λ more live u ns h.
+        at_machine (inl (machine_event f.reason reason))
+        (form_at_once (stopped-here f (call a.began stopped (held []) (Some []) a.before ms) (Some (bs ++ [])) m bs (has_read m v b t ms a (bs ++ []) a.before ms a.between) refl are going limits.depth fits (refused (a.before ++ a.since) ms (a.led a.before ms a.between.agrees)) step))
+        (λ more live u ns h.
         let r = has_read m v b t ms a (bs ++ more) u ns h in
         let c = call a.began stopped (held more) (Some more) u ns in
         refused_as asked f c
@@ -161,9 +190,14 @@ module _ (m new : MachineView) (v : OpenItems) (b : Bounds) (t bs : List ℕ) (m
 
     -- a key of another kind begins
     pub kind_refused : ¬ IsComplete m → asked ≡ true → a.since ≡ [] → (x : ℕ) → bs ≡ x ∷ [] → ¬ IsTrue (is_basic (x / 32)) → x ≢ 0xff → f ≡ refusal KeyKind m.taken new.taken → new.taken ≡ m.taken + 1
-        → ((u : List ℕ) (ns : List Mark) → Represents m u ns → IsBeginning new.depth (u ++ bs)) → IsRefusedNow f v b (t ++ bs)
+        → ((u : List ℕ) (ns : List Mark) → Represents m u ns → IsBeginning new.depth (u ++ bs)) → IsRefusedNow f new v b (t ++ bs) ms
     kind_refused going asks none x alone other item is one follows =
-        at_machine (inr (ap (λ (y : Refusal). y.reason) is)) (λ more live u ns h.
+        let here = amid_represents m v b t ms a in
+        let place : f.place ≡ m.taken = ap (λ (y : Refusal). y.place) is in
+        let read : f.read ≡ new.taken = ap (λ (y : Refusal). y.read) is in
+        at_machine (inr (ap (λ (y : Refusal). y.reason) is))
+        (ends_none f (omega (arith, place, read, one)) t (take_at t bs f.place (sym (place ∙ here.taken))) (subst (λ (d : ℕ). AreMarksWithin d t ms) (sym limits.depth) (marks_of_machine m t ms here)))
+        (λ more live u ns h.
         let s = a.led u ns h.agrees in
         let nothing : u ++ a.since ≡ u = ap (λ (y : List ℕ). u ++ y) none ∙ append-nil u in
         let size : m.taken ≡ length u = s.taken ∙ ap length nothing in

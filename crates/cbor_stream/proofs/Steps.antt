@@ -8,7 +8,7 @@ use Rattle.cbor_machine.specs.Machine.{Represents, KeepsLimits, IsComplete, IsGi
 use Rattle.cbor_machine.specs.declared.step.Out.TheVariants as outs
 use Rattle.cbor_machine.specs.{MachineView.MachineView, Steps.IsStep, declared.step.Step.Step, declared.step.Out.Out}
 use Rattle.cbor_machine.proofs.NextEvents.{complete-wants}
-use Rattle.cbor_strict.specs.{declared.open_items.OpenItems.OpenItems, inner.OpenItems.IsEventCome, inner.OpenItems.ReturnsEvent}
+use Rattle.cbor_strict.specs.{StrictReader.IsAgainstEvent, declared.open_items.OpenItems.OpenItems, inner.OpenItems.IsEventCome, inner.OpenItems.ReturnsEvent}
 use Rattle.cbor_stream.specs.inner.Amid.{IsAmid, IsOffered, IsTaken, IsBasicFirst, IsOtherFirst, IsRefusedNow, IsStepResult, asks_of}
 use Rattle.cbor_stream.proofs.StepResults.{event_judged, event_taken, event_withheld, kind_refused, follows_so, no_event}
 use Rattle.cbor_stream.proofs.Offers.{start_of, one_of, all_of_one}
@@ -64,11 +64,11 @@ module _ (is_key : Bool) (m new : MachineView) (v : OpenItems) (input : List ℕ
         pub event_here : (u : Unit {0}) → ReturnsEvent v w ev bs count read (Ok u) → IsStepResult (outs.Event ev) new w b t bs ms
         event_here u ans = event_taken m new v b t bs ms a limits are ev (omega (arith, size, some)) (given_event ev is) begun w order count read counted all u ans
 
-        pub withheld_here : (f : Refusal) → ReturnsEvent v w ev bs count read (Err f) → IsRefusedNow f w b (t ++ bs)
-        withheld_here f ans = event_withheld m new v b t bs ms a limits are ev (omega (arith, size, some)) (given_event ev is) begun w order count read counted all f ans
+        pub withheld_here : (f : Refusal) → IsAgainstEvent v.order f.reason → ReturnsEvent v w ev bs count read (Err f) → IsRefusedNow f new w b (t ++ bs) ms
+        withheld_here f against ans = event_withheld m new v b t bs ms a limits are ev (omega (arith, size, some)) (given_event ev is) begun w order count read counted all f against ans
 
   -- a key of another kind
-  pub other_here : (b : Bounds) (t : List ℕ) (ms : List Mark) (a : IsAmid m v b t ms) → IsOffered is_key b v a.since step.used → is_key ≡ true → IsTaken step.out m.taken → IsOtherFirst input → (f : Refusal) → f ≡ refusal KeyKind m.taken new.taken → IsRefusedNow f v b (t ++ bs)
+  pub other_here : (b : Bounds) (t : List ℕ) (ms : List Mark) (a : IsAmid m v b t ms) → IsOffered is_key b v a.since step.used → is_key ≡ true → IsTaken step.out m.taken → IsOtherFirst input → (f : Refusal) → f ≡ refusal KeyKind m.taken new.taken → IsRefusedNow f new v b (t ++ bs) ms
   other_here b t ms a offered key was other f is =
       let s = amid_represents m v b t ms a in
       let i = one key in

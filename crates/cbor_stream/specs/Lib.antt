@@ -1,3 +1,4 @@
+pub mod AtOnce
 pub mod Reasons
 pub mod Said
 pub mod StrictMachine

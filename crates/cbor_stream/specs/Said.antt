@@ -23,7 +23,7 @@ SaysDone v all = ((ms : List Mark) × AgreesAmid v all ms) × ((more : List ℕ)
 
 -- they are refused, whatever may follow, unless memory was
 abbrev pub SaysRefused : Refusal → StrictMachineView → List ℕ → Type 0
-SaysRefused f v all = IsStrictlyRefused f v all × (f.reason ≢ Memory → (more : List ℕ) → Tells (limits_of v) v.order (all ++ more) (Err f))
+SaysRefused f v all = ((ms : List Mark) × IsStrictlyRefused f v all ms) × (f.reason ≢ Memory → (more : List ℕ) → Tells (limits_of v) v.order (all ++ more) (Err f))
 
 -- of all bytes so far
 abbrev pub Says : Out → StrictMachineView → List ℕ → Type 0

@@ -8,7 +8,7 @@ use Rattle.cbor_machine.specs.Machine.{Represents, IsComplete, IsGiven}
 use Rattle.cbor_machine.specs.{MachineView.MachineView, declared.step.Out.Out}
 use Rattle.theory_verdicts.specs.Readers.{IsUnread}
 use Rattle.cbor_strict.specs.KeptKeys.{open_maps, key_bytes}
-use Rattle.cbor_stream.specs.inner.Amid.{Inner, IsAmid}
+use Rattle.cbor_stream.specs.{AtOnce.IsAtOnce, inner.Amid.Inner, inner.Amid.IsAmid}
 
 -- what contracts see of a strict machine: how far the form was read, what is stored, and why no more is read
 pub record StrictMachineView : Type 0 where
@@ -42,9 +42,11 @@ pub record AgreesAmid (v : StrictMachineView) (t : List ℕ) (ms : List Mark) : 
   -- the inner state is the one after t
   pub inner : IsAmid v.machine v.inner.items (limits_of v) t ms
 
--- The refusal of all that was taken: that of each input that begins so.
-pub record IsStrictlyRefused (f : Refusal) (v : StrictMachineView) (all : List ℕ) : Type 0 where
+-- The refusal of all that was taken: that of each input that begins so. The marks ms were reported before it.
+pub record IsStrictlyRefused (f : Refusal) (v : StrictMachineView) (all : List ℕ) (ms : List Mark) : Type 0 where
   pub read : f.read ≡ length all
+  -- no event was left out
+  pub at_once : IsAtOnce v.order f v.machine all ms
   pub unread : (more : List ℕ) → IsUnread (limits_of v) (strict v.order) (all ++ more) f
 
 -- what a step returns, of a machine that represented t and ms and has now used bs
@@ -52,7 +54,7 @@ abbrev pub IsStrictResult : Out → StrictMachineView → List ℕ → List ℕ 
 IsStrictResult outs.More v t bs ms = AgreesAmid v (t ++ bs) ms
 IsStrictResult (outs.Event e) v t bs ms = IsGiven e v.machine t bs ms × AgreesAmid v (t ++ bs) (ms ++ marks_of e.width e.kind)
 IsStrictResult outs.Done v t bs ms = (bs ≡ []) × IsComplete v.machine × AgreesAmid v t ms
-IsStrictResult (outs.Refused f) v t bs ms = IsStrictlyRefused f v (t ++ bs)
+IsStrictResult (outs.Refused f) v t bs ms = IsStrictlyRefused f v (t ++ bs) ms
 
 -- no refusal
 abbrev pub IsLive : Out → Type 0

@@ -260,6 +260,10 @@ impl StrictMachine {
         // More bytes may follow all the same, if none was refused.
         ensures agrees { (t : List ℕ) (ms : List Mark) → AgreesAmid self.old t ms
             → self.new.refusal ≡ None → AgreesAmid self.new t ms }
+
+        // A refusal is stored, unless it is that of an item that is not complete.
+        ensures stored { IfErr result (λ f. f.reason ≢ reasons.Truncated
+            → self.new.refusal ≡ Some f) }
         ensures again { IfSome self.old.refusal (λ f. result ≡ Err f) }
         ensures memory { IfErr result (λ f. f.reason ≡ reasons.Memory → IsTrue self.new.refused) }
     {

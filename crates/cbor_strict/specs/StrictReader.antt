@@ -97,7 +97,7 @@ pub record IsWithheld (o : KeyOrder) (spans : ℕ) (f : Refusal) (c : Call) : Ty
   pub read : f.read ≡ length (c.taken ++ bytes)
   pub agrees : AgreesBetween c.new (c.taken ++ bytes) (c.reported ++ marks_of width kind)
   pub against : IsAgainstEvent o f.reason
-  -- memory is requested where a map opens or is open, and nowhere else
+  -- a request for memory is refused only where a map opens or is open
   pub needed : f.reason ≡ Memory → (0 < spans) ⊎ IsMapHead kind
 
 -- No event was left out: after those reported, one is withheld, or a key of another kind begins, or the form refuses before

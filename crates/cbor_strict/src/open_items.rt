@@ -290,7 +290,7 @@ impl OpenItems {
     }
 }
 
-// Whether an item of definite length goes on after its head.
+// Whether an item of definite length continues after its head.
 fn goes_on(major: Major, argument: u64) -> bool
     ensures leaf { (w : Width) → result ≡ false → IsLeaf (a_head major w argument) }
     ensures more { result ≡ true → GoesOn major argument }

@@ -70,7 +70,7 @@ fn read_parts<R: Read>(
     }
 }
 
-// Reads the next part of the item. Returns whether the item goes on after it.
+// Reads the next part of the item. Returns whether the item continues after it.
 fn next_part<R: Read>(
     memory: &mut Memory,
     alloc: Global,

@@ -1,5 +1,5 @@
 -- What a machine says of a part, as it is reported.
-use Rattle.std.proofs.Common.{◌≡◌, ℕ, ◌+◌, ◌≤◌, ◌⊎◌, ◌≢◌, zero, suc, ◌++◌, Option, Some, None, List, [], length, take, refl, sym, ap, ◌∙◌, subst, inl, inr, arith, length-take-le}
+use Rattle.std.proofs.Common.{◌≡◌, ℕ, ◌+◌, ◌≤◌, ◌⊎◌, ◌≢◌, zero, suc, ◌++◌, Option, Some, None, List, [], length, take, refl, sym, ap, ◌∙◌, subst, inl, inr, arith, length-take-le, IsTrue}
 use Rattle.std.specs.Option.{IfSome}
 use Rattle.cbor_head.specs.{Prelude.refusal, declared.reason.Reason.TheVariants.Memory, declared.reason.Reason.TheVariants.Truncated}
 use Rattle.cbor_head.specs.declared.reason.Refusal.{Refusal}
@@ -20,7 +20,7 @@ map_some (Some f) P Q h p = h f p
 module _ (was now : StrictMachineView) (input : List ℕ) (used : ℕ) (out : Out) (within : used ≤ length input) (taken : now.machine.taken ≡ was.machine.taken + used)
     (says : (t : List ℕ) (ms : List Mark) → AgreesAmid was t ms → Says out now (t ++ take used input)) (limits : KeepsLimits was.machine now.machine) (order : now.order ≡ was.order) (keys : now.keys ≡ was.keys)
     (refused : IfRefused out (λ f. (now.refusal ≡ Some f) × (now.machine.taken ≡ f.read) × IsStrictReason was.order f.reason × (now.spans ≡ 0) × (now.kept ≡ 0)))
-    (again : IfSome was.refusal (λ f. (out ≡ outs.Refused f) × (used ≡ 0) × (now ≡ was)))
+    (memory : IfRefused out (λ f. f.reason ≡ Memory → IsTrue now.refused)) (again : IfSome was.refusal (λ f. (out ≡ outs.Refused f) × (used ≡ 0) × (now ≡ was)))
     (complete : IsComplete was.machine → was.refusal ≡ None → (out ≡ outs.Done) × (used ≡ 0)) where
   pub checked_so : (old new : Option StrictMachineView) → old ≡ Some was → new ≡ Some now → (reported : Out → StrictMachineView → Type 0) → reported out now → HasChecked old new (take used input) reported
   checked_so old new held holds reported reports = record {
@@ -35,6 +35,7 @@ module _ (was now : StrictMachineView) (input : List ℕ) (used : ℕ) (out : Ou
     order = order;
     taken = omega (arith, taken, length-take-le used input within);
     refused = if_refused out _ (λ f. now.refusal ≡ Some f) (λ f h. h.0) refused;
+    memory = memory;
     complete = λ is live. let d = complete is live in (d.0, ap (λ (n : ℕ). take n input) d.1);
     again = map_some was.refusal _ (λ f. (out ≡ outs.Refused f) × (take used input ≡ []) × (now ≡ was)) (λ f h. (h.0, ap (λ (n : ℕ). take n input) h.1, h.2)) again;
   }

@@ -1,5 +1,5 @@
 -- What the strict check of an item whose bytes come in parts reports, as C has it.
-use Rattle.std.specs.Prelude.{ℕ, ◌≡◌, ◌≢◌, ◌⊎◌, ◌+◌, ◌++◌, List, [], length, Option, Some, None, IfSome}
+use Rattle.std.specs.Prelude.{ℕ, ◌≡◌, ◌≢◌, ◌⊎◌, ◌+◌, ◌++◌, List, [], length, Option, Some, None, IfSome, IsTrue, false}
 use Rattle.cbor_head.specs.{Prelude.refusal, declared.reason.Reason.TheVariants.Memory, declared.reason.Reason.TheVariants.Truncated}
 use Rattle.cbor_head.specs.declared.reason.Refusal.{Refusal}
 use Rattle.theory_automaton.specs.Trace.{Mark}
@@ -32,6 +32,8 @@ pub record IsNew (held : Option StrictMachineView) (order keys depth bytes : ℕ
   pub agrees : AgreesAmid machine [] []
   pub limits : limits_of machine ≡ item_limits keys depth bytes
   pub order_is : machine.order ≡ key_order order
+  -- no request for memory was refused
+  pub memory : machine.refused ≡ false
 
 -- A machine that goes on with another item, within its limits.
 pub record HasRestarted (old new : Option StrictMachineView) (order : ℕ) : Type 0 where
@@ -42,6 +44,8 @@ pub record HasRestarted (old new : Option StrictMachineView) (order : ℕ) : Typ
   pub agrees : AgreesAmid now [] []
   pub limits : limits_of now ≡ limits_of was
   pub order_is : now.order ≡ key_order order
+  -- no request for memory was refused for this item
+  pub memory : now.refused ≡ false
 
 -- The machine used these bytes. What is said of all bytes so far, for all that it represented before, is reported. It keeps a
 -- refusal, and then uses nothing and says the same.
@@ -57,5 +61,7 @@ pub record HasChecked (old new : Option StrictMachineView) (bs : List ℕ) (repo
   pub order : now.order ≡ was.order
   pub taken : now.machine.taken ≡ was.machine.taken + length bs
   pub refused : IfRefused out (λ f. now.refusal ≡ Some f)
+  -- memory is the reason only if a request for memory was refused for the item
+  pub memory : IfRefused out (λ f. f.reason ≡ Memory → IsTrue now.refused)
   pub complete : IsComplete was.machine → was.refusal ≡ None → (out ≡ outs.Done) × (bs ≡ [])
   pub again : IfSome was.refusal (λ f. (out ≡ outs.Refused f) × (bs ≡ []) × (now ≡ was))

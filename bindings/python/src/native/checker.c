@@ -111,7 +111,8 @@ static PyMethodDef methods[] = {
      "feed($self, part, /)\n--\n\nChecks the next bytes, and returns whether the item is complete. Raises Refused as soon as "
      "it is wrong."},
     {"end", checker_end, METH_NOARGS,
-     "end($self, /)\n--\n\nReturns the number of bytes of the item if it is complete. Raises Refused otherwise."},
+     "end($self, /)\n--\n\nReturns the number of bytes of the item if it is complete. Raises Refused otherwise: "
+     "Truncated, after which more bytes may follow, or the refusal that `feed` raised."},
     {"restart", checker_restart, METH_NOARGS, "restart($self, /)\n--\n\nGoes on with another item, with the same options."},
     {"__reduce__", checker_reduce, METH_NOARGS, NULL},
     {NULL, NULL, 0, NULL}};

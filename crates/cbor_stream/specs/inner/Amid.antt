@@ -10,7 +10,7 @@ use Rattle.cbor_machine.specs.{NextEvent.ItemEventsView, NextEvent.AgreesBetween
 use Rattle.theory_verdicts.specs.{Kinds.KeepsToKinds, Kinds.HasBasicPrefix, Readers.IsUnread, Refusals.IsReaderReason}
 use Rattle.cbor_strict.specs.{inner.LastKeys.view_value, inner.OpenItems.Agrees, declared.last_keys.Expected.Expected}
 use Rattle.cbor_strict.specs.declared.{last_keys.Expected.TheVariants.Member, last_keys.Expected.TheVariants.Key, open_items.OpenItems.OpenItems}
-use Rattle.cbor_stream.specs.Reasons.{IsStrictReason}
+use Rattle.cbor_stream.specs.{Reasons.IsStrictReason, AtOnce.IsAtOnce}
 
 -- ---- whether a key is expected whose kind is judged
 
@@ -82,9 +82,10 @@ IsTaken out place = Unit {0}
 
 -- ---- what comes of it
 
--- the refusal of all that was taken, whatever may follow
-pub record IsRefusedNow (f : Refusal) (v : OpenItems) (b : Bounds) (all : List ℕ) : Type 0 where
+-- the refusal of all that was taken, whatever may follow; ms was reported before it
+pub record IsRefusedNow (f : Refusal) (m : MachineView) (v : OpenItems) (b : Bounds) (all : List ℕ) (ms : List Mark) : Type 0 where
   pub read : f.read ≡ length all
+  pub at_once : IsAtOnce v.order f m all ms
   pub reason : IsReaderReason b (strict v.order) f.reason
   pub unread : (more : List ℕ) → IsUnread b (strict v.order) (all ++ more) f
 
@@ -93,7 +94,7 @@ abbrev pub IsStepResult : Out → MachineView → OpenItems → Bounds → List 
 IsStepResult outs.More m v b t bs ms = IsAmid m v b (t ++ bs) ms
 IsStepResult (outs.Event e) m v b t bs ms = IsGiven e m t bs ms × IsAmid m v b (t ++ bs) (ms ++ marks_of e.width e.kind)
 IsStepResult outs.Done m v b t bs ms = (bs ≡ []) × IsComplete m × IsAmid m v b t ms
-IsStepResult (outs.Refused f) m v b t bs ms = IsRefusedNow f v b (t ++ bs)
+IsStepResult (outs.Refused f) m v b t bs ms = IsRefusedNow f m v b (t ++ bs) ms
 
 -- ---- what leads from one step to the next
 

@@ -25,7 +25,7 @@ impl OpenItems {
     }
 
     /// The size in bytes of the item that the input begins with, if its bytes are canonical within
-    /// these limits.
+    /// these limits. It may return `None` for any input: then the caller only loses a fast path.
     pub fn canonical_item(&self, input: &[u8], limits: Limits) -> Option<u64>
         ensures { IfSome result (λ count. IsRead limits (strict self.now.order) input.now count) }
     {

@@ -39,4 +39,4 @@ pub returns-in-Err-clause-returned : goal.returns-in-Err-clause-returned
 returns-in-Err-clause-returned c = λ b t ms a offered.
     let s = c.take_part-step in
     withheld_here c.args.is_key c.args.machine.now s.new.machine c.args.items.now c.args.input.now s.result c.below_256.ensures c.requires.first s.ensures.used s.ensures.taken s.ensures.limits s.ensures.exact s.ensures.walked s.ensures.returned
-    b t ms a offered (λ key was. c.is_other_key.ensures.basic c.if-is_other_key.false key (subst (IsTaken s.result.out) (sym c.taken-place.ensures.taken) was)) c.in-Event.event c.in-Event.is (s.ensures.progress (subst IsEvent (sym c.in-Event.is) tt)) c.admit.new.self c.in-Err.ensures.order c.open-open.result c.taken-taken.result c.open-open.ensures.count c.taken-taken.ensures.taken c.in-Err.refusal c.in-Err.ensures.returned
+    b t ms a offered (λ key was. c.is_other_key.ensures.basic c.if-is_other_key.false key (subst (IsTaken s.result.out) (sym c.taken-place.ensures.taken) was)) c.in-Event.event c.in-Event.is (s.ensures.progress (subst IsEvent (sym c.in-Event.is) tt)) c.admit.new.self c.in-Err.ensures.order c.open-open.result c.taken-taken.result c.open-open.ensures.count c.taken-taken.ensures.taken c.in-Err.refusal c.in-Err.ensures.against c.in-Err.ensures.returned

@@ -9,4 +9,5 @@ returns-in-Ok-clause-new c = λ _. record {
   agrees = subst (λ (m : StrictMachineView). AgreesAmid m [] []) (sym c.in-Ok.ensures.ok) c.new.ensures.starts;
   limits = ap limits_of c.in-Ok.ensures.ok ∙ c.new.ensures.limits ∙ c.in-Some-limits_of.ensures.value.0;
   order_is = ap (λ (m : StrictMachineView). m.order) c.in-Ok.ensures.ok ∙ c.new.ensures.order ∙ c.in-Some.ensures.value.0;
+  memory = ap (λ (m : StrictMachineView). m.refused) c.in-Ok.ensures.ok ∙ c.new.ensures.memory;
 }

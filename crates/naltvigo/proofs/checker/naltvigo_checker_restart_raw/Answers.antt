@@ -14,4 +14,5 @@ returns-clause-restarted c = λ _. record {
   agrees = c.restart.ensures.starts;
   limits = c.restart.ensures.limits;
   order_is = c.restart.ensures.order ∙ c.in-Some.ensures.value.0;
+  memory = c.restart.ensures.memory;
 }

@@ -1,5 +1,5 @@
 use Rattle.std.proofs.Common.{◌≡◌, ◌<◌, ◌∙◌, Some, None, sym, ap, subst, inl, inr, arith, take, []}
-use Rattle.cbor_head.specs.{Prelude.refusal, declared.reason.Reason.TheVariants.Truncated}
+use Rattle.cbor_head.specs.{Prelude.refusal, declared.reason.Reason.TheVariants.Truncated, declared.reason.Refusal.Refusal}
 use Rattle.cbor_machine.specs.Machine.{IfRefused, IsMore, IsEvent}
 use Rattle.cbor_machine.specs.declared.step.Out.{Out}
 use Rattle.cbor_stream.proofs.Checking.{ends_done, ends_refused, ends_more, agrees_more}
@@ -32,6 +32,14 @@ returns-in-More-clause-says c = λ t ms h.
           (subst (λ (o : Out). IsStrictResult o s.new.self t (take s.result.used []) ms) is (s.ensures.returned t ms h))
       | inr e ↦ let some : 0 < s.result.used = s.ensures.event.0 (subst IsEvent (sym e.1) tt) in absurd (omega (arith, some, none))
     ]
+
+pub returns-in-Refused-clause-stored : goal.returns-in-Refused-clause-stored
+returns-in-Refused-clause-stored c = λ _.
+    let s = c.step in
+    subst (λ (o : Out). IfRefused o (λ f. s.new.self.refusal ≡ Some f)) c.in-Refused.is (if_refused s.result.out _ _ (λ f k. k.0) s.ensures.refused)
+
+pub returns-in-More-clause-stored : goal.returns-in-More-clause-stored
+returns-in-More-clause-stored c = λ no. absurd (no (ap (λ (f : Refusal). f.reason) c.new.ensures))
 
 pub returns-in-Done-clause-agrees : goal.returns-in-Done-clause-agrees
 returns-in-Done-clause-agrees c = λ t ms h live.

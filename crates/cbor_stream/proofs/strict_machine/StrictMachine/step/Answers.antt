@@ -42,5 +42,5 @@ returns-clause-returned c = λ t ms h.
     let b = bounds_of c.self.inside.machine keys in
     let bs = take s.result.used c.args.input.now in
     let here = subst (λ (o : StrictMachineView). AgreesAmid o t ms) (sym c.self.view_is) h in
-    refused_so c.self.inside.machine s.new.machine c.self.inside.items s.new.items keys s.ensures.limits c.self.invariant.limits c.in-Refused.refusal c.forget.new.self (t ++ bs)
+    refused_so c.self.inside.machine s.new.machine c.self.inside.items s.new.items keys s.ensures.limits c.self.invariant.limits c.in-Refused.refusal c.forget.new.self (t ++ bs) ms
     (subst (λ (o : Out). IsStepResult o s.new.machine s.new.items b t bs ms) c.in-Refused.is (s.ensures.returned b t ms here.inner refl))
