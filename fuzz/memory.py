@@ -228,6 +228,12 @@ def is_word(found, usual, length):
     return memory and memory[1] == memory[2] and int(memory[1]) + int(memory[3]) == length and int(memory[3]) >= left
 
 
+def is_machine(found, usual, length):
+    """Whether the strict machine returned Memory, and then the same at the end."""
+    said, end = found.split(";")
+    return end.startswith(f"{said}:") and is_word(end, usual.split(";")[1], length)
+
+
 def reads(asked, part, length):
     """The number of bytes that these reads return."""
     taken = 0
@@ -274,11 +280,13 @@ def is_line(found, usual, length):
     if len(others) != 1:
         return not others
     found, usual = found[others[0]], usual[others[0]]
-    # three words and the calls in both orders for each part, the view and the sequence
-    part, word = divmod(others[0], 5)
+    # three words, the machine and the calls in both orders for each part, the view and the sequence
+    part, word = divmod(others[0], 7)
     if part == len(PARTS):
         return is_sequence(found, usual) if word else is_view(found, usual, length)
-    return is_word(found, usual, length) if word < 3 else is_calls(found, usual, PARTS[part], length)
+    if word < 3:
+        return is_word(found, usual, length)
+    return is_machine(found, usual, length) if word < 5 else is_calls(found, usual, PARTS[part], length)
 
 
 def lines():

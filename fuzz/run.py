@@ -8,8 +8,8 @@ Each input goes through the calls that must agree on it: canonicalise, in both o
 check_canonical, check_valid, compare, diagnostic; and a checker, in parts that are cut at random. With the program every tenth
 goes through show, events, canon, compare, and check and check --strict over a sequence, and each row of the tables through
 canon, check and check --strict; with the readers each goes through read_tree and then encode, read_strict, StrictReader call by
-call with what it requests from its reader, and Sequence, over readers that return 1, 2, 3 or 4096 bytes a read, and through
-read_view, its tree and then encode. One half is read for keys of any kind, the other for integers and texts. First come the rows
+call with what it requests from its reader, and Sequence, over readers that return 1, 2, 3 or 4096 bytes a read, through
+StrictMachine in parts of 1, 3 or 4096 bytes, and through read_view, its tree and then encode. One half is read for keys of any kind, the other for integers and texts. First come the rows
 of the conformance tables, whose results were worked out by hand, and large maps out of order (large.py). With --every N only
 every Nth row goes through the program, for one that starts slowly; the seed says which. The first disagreement is reported
 with its input and the seed, and the status is 1. The run ends after the given seconds, and at least 100 inputs; a seed always
@@ -25,7 +25,7 @@ import tempfile
 import time
 from collections import Counter
 
-from calls import Strictly
+from calls import TRUNCATED, Strictly
 from expected import Disagreement, expect
 from items import Items
 from large import large_maps
@@ -89,6 +89,14 @@ def reported(refusal):
     return "!%d,%d,%d" % refusal
 
 
+def machine_word(results, order, word):
+    """What the strict machine returns, of which `end` returns what `read_strict` does: this word."""
+    refused = results.strict[order]
+    if refused is None:
+        return f"done;{word}"
+    return f"{'more' if refused.reason == TRUNCATED else reported(refused)};{word}"
+
+
 def read(results):
     """The output line of the driver of the readers: see crates/fuzz_readers."""
     words = []
@@ -98,6 +106,7 @@ def read(results):
     if not results.plain:
         both = ",".join(canonical(order, results.value).hex() for order in (BYTEWISE, LENGTH_FIRST))
         words[0] = words[0].replace(":", f",{both}:")
+    words += [machine_word(results, order, words[1 + order]) for order in (BYTEWISE, LENGTH_FIRST)]
     strictly = Strictly(results)
     parts = [it for part in PARTS for it in words + [strictly.word(order, part) for order in (BYTEWISE, LENGTH_FIRST)]]
     items, rest = "", results.given

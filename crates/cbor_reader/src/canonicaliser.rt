@@ -58,6 +58,7 @@ pub fn canonicalise_in(
     ensures memory { IfErr result
         (λ f. f.reason ≡ reasons.Memory → IsMemoryRefusal limits order bytes.now f) }
     ensures request { IfErr result (λ f. f.reason ≡ reasons.Memory → IsTrue memory.new) }
+    ensures kept { IfOk result (λ _. memory.new ≡ memory.old) }
 {
     match canonical_bytes_in(memory, alloc, bytes, limits, order)? {
         CowSlice::Owned(made) => Ok(made),

@@ -97,6 +97,8 @@ pub fn same_meaning_in(
         → ¬ IsWholeItem limits right.now) }
     ensures request { IfErr result (λ e. e.1.reason ≡ reasons.Memory
         → IsTrue (memory_of e.0 left_memory.new right_memory.new)) }
+    ensures kept { IfOk result (λ _. (left_memory.new ≡ left_memory.old)
+        × (right_memory.new ≡ right_memory.old)) }
 {
     let left_item = match encoded_item(left_memory, alloc, left, limits, KeyOrder::Bytewise) {
         Ok(bytes) => bytes,

@@ -48,6 +48,7 @@ pub fn check_valid_in(
     ensures no_read { IfErr result (λ f. f.reason ≢ reasons.Read) }
     ensures memory { IfErr result ReportsMemoryAtStart }
     ensures request { IfErr result (λ f. f.reason ≡ reasons.Memory → IsTrue memory.new) }
+    ensures kept { IfOk result (λ _. memory.new ≡ memory.old) }
 {
     match probe_canonical(bytes, limits, KeyOrder::Bytewise)? {
         Some(size) => Ok(size),
@@ -69,6 +70,7 @@ fn valid_size(
     ensures no_read { IfErr result (λ f. f.reason ≢ reasons.Read) }
     ensures memory { IfErr result ReportsMemoryAtStart }
     ensures request { IfErr result (λ f. f.reason ≡ reasons.Memory → IsTrue memory.new) }
+    ensures kept { IfOk result (λ _. memory.new ≡ memory.old) }
 {
     let mut building = Parser::new(KeyBytes::new(alloc));
     match building.parse_item(bytes, limits) {

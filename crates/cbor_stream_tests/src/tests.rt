@@ -1,4 +1,5 @@
-//! The strict machine: items of many levels, long keys, refused memory, and calls after the end.
+//! The strict machine: items of many levels, long keys, kinds of keys, short inputs, and calls after
+//! the end.
 
 use cbor_head::{Keys, Limits, Reason, Refusal};
 use cbor_stream::{Event, EventKind, Out, Step, StrictMachine};
@@ -75,12 +76,11 @@ fn takes_keys_of_many_levels(rt: HostRuntime) -> Result<(), Fail> {
     Ok(())
 }
 
-// A map of two texts of this length as keys, which differ in their last byte.
-fn map_of(alloc: Global, length: u16, last: [u8; 2]) -> Result<Vec<u8>, AllocError> {
+// A map of two texts of this head and length as keys, which differ in their last byte.
+fn map_of(alloc: Global, head: &[u8], length: u32, last: [u8; 2]) -> Result<Vec<u8>, AllocError> {
     let mut bytes = vec![in alloc; 0xa2]?;
     for end in last {
-        bytes.push(0x79)?;
-        bytes.extend_from_slice(&length.to_be_bytes())?;
+        bytes.extend_from_slice(head)?;
         for _ in 1..length {
             bytes.push(b'k')?;
         }
@@ -95,11 +95,23 @@ fn compares_keys_longer_than_a_part(rt: HostRuntime) -> Result<(), Fail> {
     let limits = Limits::new(4, 1 << 20).ok_or("limits")?;
     for order in [KeyOrder::Bytewise, KeyOrder::LengthFirst] {
         for last in [[b'a', b'b'], [b'b', b'a'], [b'a', b'a']] {
-            let bytes = map_of(rt.alloc(), 3000, last)?;
+            let bytes = map_of(rt.alloc(), b"\x79\x0b\xb8", 3000, last)?;
             for part in [7, 500, 3003, 6000] {
                 assert!(rt; is_alike(rt.alloc(), &bytes, limits, order, part));
             }
         }
+    }
+    Ok(())
+}
+
+// Of each of these parts but the last one, only a refusal is compared: the check of all bytes so far,
+// after each part, takes too long.
+#[test]
+fn compares_keys_of_a_mebibyte(rt: HostRuntime) -> Result<(), Fail> {
+    let limits = Limits::new(1, 1 << 22).ok_or("limits")?;
+    for last in [[b'a', b'b'], [b'b', b'a'], [b'a', b'a']] {
+        let bytes = map_of(rt.alloc(), b"\x7a\x00\x10\x00\x00", 1 << 20, last)?;
+        assert!(rt; is_alike(rt.alloc(), &bytes, limits, KeyOrder::Bytewise, 65_537));
     }
     Ok(())
 }

@@ -50,14 +50,15 @@ pub fn read_strict<R: Read>(
     ensures read { IfErr result
         (λ f. Loses f.read (R.remaining reader.old) (R.remaining reader.new)) }
 {
-    read_strict_in(alloc, &mut Memory::new(), reader, limits, order)
+    read_strict_in(&mut Memory::new(), alloc, reader, limits, order)
 }
 
-/// As [`read_strict`], and records whether a request for memory was refused: only then is the refusal
-/// `Memory`.
+/// Returns what [`read_strict`] returns, and records in `memory` whether a request for memory was refused. The refusal is
+/// `Memory` only if one was. Pass a new `Memory` to learn whether this call was refused memory: if `memory` records a
+/// refusal already, the clause `request` says nothing.
 pub fn read_strict_in<R: Read>(
-    alloc: Global,
     memory: &mut Memory,
+    alloc: Global,
     reader: &mut R,
     limits: Limits,
     order: KeyOrder,
@@ -76,8 +77,8 @@ pub fn read_strict_in<R: Read>(
         (HasNoCanonicalPrefix limits order)) }
     ensures read { IfErr result
         (λ f. Loses f.read (R.remaining reader.old) (R.remaining reader.new)) }
-    ensures memory { IfErr result (λ f. f.reason ≡ reasons.Memory → IsTrue memory.new) }
-    ensures granted { OnOk result (memory.new ≡ memory.old) }
+    ensures request { IfErr result (λ f. f.reason ≡ reasons.Memory → IsTrue memory.new) }
+    ensures kept { OnOk result (memory.new ≡ memory.old) }
 {
     let mut events = StrictEvents::new(alloc, limits, order);
     let result = read_strict_by(&mut events, reader, order);

@@ -1,6 +1,6 @@
 //! The parts of an item, as the tree reader reads them.
 
-ghost use Rattle.std.specs.Prelude.{◌≡◌, IfErr, IsTrue};
+ghost use Rattle.std.specs.Prelude.{◌≡◌, IfErr, IsTrue, OnOk};
 ghost use Rattle.cbor_tree_reader.specs.inner.PlainParts.{HasCome, ReturnsPart};
 
 use crate::strings::read_string;
@@ -33,6 +33,7 @@ pub(crate) fn read_part<R: Read>(
 ) -> Result<ItemPart, Refusal>
     requires { HasCome events.old kind }
     ensures memory { IfErr result (λ f. f.reason ≡ Reason.Memory → IsTrue memory.new) }
+    ensures kept { OnOk result (memory.new ≡ memory.old) }
     ensures part { ReturnsPart events.old kind
         (R.remaining reader.old) (R.remaining reader.new) events.new result }
 {

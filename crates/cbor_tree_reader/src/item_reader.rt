@@ -31,6 +31,7 @@ pub(crate) fn read_item_prefix<R: Read>(
     ensures limits { OnOk result ((events.new.machine.depth ≡ limits.depth)
         × (events.new.machine.bytes ≡ limits.bytes)) }
     ensures memory { IfErr result (λ f. f.reason ≡ Reason.Memory → IsTrue memory.new) }
+    ensures kept { OnOk result (memory.new ≡ memory.old) }
     ensures prefix { MatchResult result
         (λ outcome. IsPrefixRead plain limits
         (R.remaining reader.old) (R.remaining reader.new) (view outcome.0) outcome.1)
@@ -58,6 +59,7 @@ fn read_parts<R: Read>(
 ) -> Result<(), Refusal>
     requires { IsExpectedSomewhere items.old events.old }
     ensures memory { IfErr result (λ f. f.reason ≡ Reason.Memory → IsTrue memory.new) }
+    ensures kept { OnOk result (memory.new ≡ memory.old) }
     ensures parts { ReturnsParts items.old items.new events.old events.new
         (R.remaining reader.old) (R.remaining reader.new) result }
 {
@@ -80,6 +82,7 @@ fn next_part<R: Read>(
 ) -> Result<bool, Refusal>
     requires { IsExpectedSomewhere items.old events.old }
     ensures memory { IfErr result (λ f. f.reason ≡ Reason.Memory → IsTrue memory.new) }
+    ensures kept { OnOk result (memory.new ≡ memory.old) }
     ensures part { ReturnsNextPart items.old items.new events.old events.new
         (R.remaining reader.old) (R.remaining reader.new) result }
 {

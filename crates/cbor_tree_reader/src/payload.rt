@@ -1,6 +1,6 @@
 //! The bytes of strings.
 
-ghost use Rattle.std.specs.Prelude.{◌≡◌, IfErr, IsTrue, false};
+ghost use Rattle.std.specs.Prelude.{◌≡◌, IfErr, IsTrue, OnOk, false};
 ghost use Rattle.theory_verdicts.specs.Reading.{IsPayloadExpected, ReturnsPayload};
 
 use cbor_events::ItemEvents;
@@ -29,6 +29,7 @@ pub(crate) fn read_payload<R: Read>(
 ) -> Result<(), Refusal>
     requires { IsPayloadExpected events.old count }
     ensures memory { IfErr result (λ f. f.reason ≡ Reason.Memory → IsTrue memory.new) }
+    ensures kept { OnOk result (memory.new ≡ memory.old) }
     ensures payload { ReturnsPayload false events.old count into.old.items into.new.items
         (R.remaining reader.old) (R.remaining reader.new) events.new result }
 {
@@ -61,6 +62,7 @@ pub(crate) fn read_chunk<R: Read>(
 ) -> Result<(), Refusal>
     requires { IsPayloadExpected events.old count }
     ensures memory { IfErr result (λ f. f.reason ≡ Reason.Memory → IsTrue memory.new) }
+    ensures kept { OnOk result (memory.new ≡ memory.old) }
     ensures payload { ReturnsPayload text events.old count into.old.items into.new.items
         (R.remaining reader.old) (R.remaining reader.new) events.new result }
 {

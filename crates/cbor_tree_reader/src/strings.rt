@@ -1,6 +1,6 @@
 //! Strings, of one piece or of chunks.
 
-ghost use Rattle.std.specs.Prelude.{◌≡◌, IfErr, IsTrue, None};
+ghost use Rattle.std.specs.Prelude.{◌≡◌, IfErr, IsTrue, OnOk, None};
 ghost use Rattle.cbor_head.specs.Complaint.{plain};
 ghost use Rattle.theory_verdicts.specs.Reading.{HasBegun, string_kind};
 ghost use Rattle.cbor_tree_reader.specs.inner.PlainParts.{ReturnsString};
@@ -23,6 +23,7 @@ pub(crate) fn read_string<R: Read>(
 ) -> Result<Vec<u8>, Refusal>
     requires { HasBegun plain events.old (string_kind text length) }
     ensures memory { IfErr result (λ f. f.reason ≡ Reason.Memory → IsTrue memory.new) }
+    ensures kept { OnOk result (memory.new ≡ memory.old) }
     ensures string { ReturnsString text length events.old
         (R.remaining reader.old) (R.remaining reader.new) events.new result }
 {
@@ -48,6 +49,7 @@ fn read_chunks<R: Read>(
 ) -> Result<Vec<u8>, Refusal>
     requires { HasBegun plain events.old (string_kind text None) }
     ensures memory { IfErr result (λ f. f.reason ≡ Reason.Memory → IsTrue memory.new) }
+    ensures kept { OnOk result (memory.new ≡ memory.old) }
     ensures string { ReturnsString text None events.old
         (R.remaining reader.old) (R.remaining reader.new) events.new result }
 {

@@ -43,14 +43,16 @@ pub fn read_tree<R: Read>(
 }
 
 /// Reads a tree as [`read_tree`] does, and records in `memory` whether a request for memory was refused. If none was, the
-/// refusal is not `Memory`.
+/// refusal is not `Memory`. Pass a new `Memory` to learn whether this call was refused memory: if `memory` records a
+/// refusal already, the clause `request` says nothing.
 pub fn read_tree_in<R: Read>(
     memory: &mut Memory,
     alloc: Global,
     reader: &mut R,
     limits: Limits,
 ) -> Result<(Tree, u64), Refusal>
-    ensures memory { IfErr result (λ f. f.reason ≡ Reason.Memory → IsTrue memory.new) }
+    ensures request { IfErr result (λ f. f.reason ≡ Reason.Memory → IsTrue memory.new) }
+    ensures kept { OnOk result (memory.new ≡ memory.old) }
     ensures accepted { IfOk result (λ outcome. IfSome (R.remaining reader.old)
         (λ input. IsReadAs limits plain input (view outcome.0) outcome.1)) }
     ensures taken { IfOk result
@@ -77,7 +79,8 @@ pub fn read_tree_by<R: Read>(
         × (events.old.machine.bytes ≡ limits.bytes) }
     ensures limits { OnOk result ((events.new.machine.depth ≡ limits.depth)
         × (events.new.machine.bytes ≡ limits.bytes)) }
-    ensures memory { IfErr result (λ f. f.reason ≡ Reason.Memory → IsTrue memory.new) }
+    ensures request { IfErr result (λ f. f.reason ≡ Reason.Memory → IsTrue memory.new) }
+    ensures kept { OnOk result (memory.new ≡ memory.old) }
     ensures accepted { IfOk result (λ outcome. IfSome (R.remaining reader.old)
         (λ input. IsReadAs limits plain input (view outcome.0) outcome.1)) }
     ensures taken { IfOk result

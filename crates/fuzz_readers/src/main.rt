@@ -3,10 +3,14 @@
 //! An input line is the kinds of keys, a depth limit, a byte limit and the bytes in hex digits, for
 //! example `basic 256 1048576 a18000`; the kinds are `any`, or `basic` for integers and texts. The results
 //! are in a fixed order, separated by spaces. For readers that give at most 1, 3 and 4096 bytes a read:
-//! what `read_tree` and `read_strict` return and the canonical bytes of the tree, and what `StrictReader`
-//! returns call by call. Then: what `read_view` returns and the canonical bytes of its tree, and what a
-//! `Sequence` gives. A refusal is `!` and its reason, `place` and `read`; after the last colon is the
-//! number of bytes that the reader has left.
+//! what `read_tree` and `read_strict` return and the canonical bytes of the tree; what `StrictMachine`
+//! returns of parts of at most as many bytes; and what `StrictReader` returns call by call. Then: what
+//! `read_view` returns and the canonical bytes of its tree, and what a `Sequence` gives. A refusal is `!`
+//! and its reason, `place` and `read`; after the last colon is the number of bytes that the reader has
+//! left.
+//!
+//! For `StrictMachine` it is what the last `check` returns (`more`, `done` or a refusal), `;`, and what
+//! `end` returns.
 //!
 //! A call of `StrictReader` ends with `;`: an event (name, argument, offset, width, and the bytes of a
 //! piece), `none` or a refusal; then `taken`, `open`, `spans`, `kept` and the length of `piece`. After the
@@ -20,12 +24,14 @@
 mod asked;
 mod events;
 mod long;
+mod machine;
 mod memory;
 mod parts;
 mod writing;
 
 use crate::events::report_events;
 use crate::long::report_long;
+use crate::machine::report_machine;
 use crate::memory::report_memory;
 use crate::parts::Parts;
 use crate::writing::{put_hex, put_refusal};
@@ -85,6 +91,9 @@ fn report_line<W: Write>(alloc: Global, line: &str, out: &mut W) -> io::Result<(
     for part in PARTS {
         report_tree(alloc, &bytes, part, limits, out)?;
         report_strict(alloc, &bytes, part, limits, out)?;
+        for order in ORDERS {
+            report_machine(alloc, &bytes, part, limits, order, out)?;
+        }
         for order in ORDERS {
             let rest = &bytes[..];
             report_events(alloc, Parts { rest, part }, limits, order, out)?;

@@ -26,11 +26,11 @@ fn records_no_request_that_was_granted(rt: HostRuntime) {
     let mut memory = Memory::new();
     // {1: 0}
     let mut reader = &b"\xa1\x01\x00"[..];
-    let result = read_strict_in(alloc, &mut memory, &mut reader, limits, KeyOrder::Bytewise);
+    let result = read_strict_in(&mut memory, alloc, &mut reader, limits, KeyOrder::Bytewise);
     assert!(rt; result == Ok(3));
     // {1: 0, 0: 0}
     let mut reader = &b"\xa2\x01\x00\x00\x00"[..];
-    let result = read_strict_in(alloc, &mut memory, &mut reader, limits, KeyOrder::Bytewise);
+    let result = read_strict_in(&mut memory, alloc, &mut reader, limits, KeyOrder::Bytewise);
     assert!(rt; result == Err(Refusal::new(Reason::KeyOrder, 3, 4)));
     assert!(rt; !memory.is_refused());
 }
