@@ -392,7 +392,8 @@ static inline uint32_t naltvigo_check_canonical(const uint8_t *in, size_t in_len
 }
 
 /*
- * naltvigo_check_valid: whether the whole input is one well-formed, valid item, in any encoding.
+ * naltvigo_check_valid: whether the whole input is one well-formed, valid item, in any encoding. For input that is canonical
+ * in the bytewise order it allocates no memory.
  *
  * Returns OK, REFUSED (reasons 1 to 12, 20), NO_MEMORY, BAD_LIMITS.
  */
@@ -412,7 +413,7 @@ static inline uint32_t naltvigo_check_valid(const uint8_t *in, size_t in_length,
  * OK if the input begins with a well-formed, valid item, in any encoding. `*length` is then the number of its bytes, at
  * least 1; the bytes after it are not read. If the status is not OK, `*length` is 0. To read a sequence, call again after
  * each item until no byte is left; pass each item to naltvigo_canonicalise or another call. An empty input is REFUSED,
- * with TRUNCATED at 0.
+ * with TRUNCATED at 0. For an item that is canonical in the bytewise order the call allocates no memory.
  *
  * Returns OK, REFUSED (reasons 1 to 11, 20), NO_MEMORY, BAD_LIMITS.
  */
@@ -452,6 +453,7 @@ static inline uint32_t naltvigo_next_canonical(const uint8_t *in, size_t in_leng
  * naltvigo_canonicalise, in either order, returns equal bytes. The limits apply to each input separately.
  *
  * The left input is checked first. `*side` says which input was refused. It is written if the status is REFUSED or NO_MEMORY.
+ * For an input that is canonical in the bytewise order the call allocates no memory.
  *
  * Returns OK, DIFFERENT, REFUSED (reasons 1 to 12, 20), NO_MEMORY, BAD_LIMITS.
  */

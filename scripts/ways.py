@@ -16,8 +16,8 @@ import proved
 from proved import CRATES, ROOT, after_partner, crates
 from written import write_or_compare
 
-# An item, also of a trait that only its crate sees.
-ITEM = re.compile(proved.ITEM.pattern.replace("pub trait", r"pub(?:\(\w+\))? trait"), re.M)
+# An item, also of a trait that only its crate sees; of an export without "C", since strings are left out.
+ITEM = re.compile(proved.ITEM.pattern.replace("pub trait", r"pub(?:\(\w+\))? trait").replace(r"\"C\"", ""), re.M)
 
 # The calls of the table. Their crates are not named here, since calls move between crates.
 CALLS = [
@@ -42,6 +42,8 @@ class File:
         self.plain = re.sub(r"//[^\n]*|\"(?:[^\"\\]|\\[\s\S])*\"", "", self.text)
         self.types = set(re.findall(r"(?m)^(?:pub(?:\(crate\))? )?(?:struct|enum|trait) (\w+)", self.plain))
         self.bodies, self.brings, self.bare, self.impls, self.wanted = {}, {}, set(), set(), {}
+        # What is between the name of a function and its body.
+        self.heads = {}
         self.read_functions()
         for used in re.findall(r"(?m)^(?:pub(?:\(\w+\))? )?use ([^;]+);", self.plain):
             self.bring(re.sub(r"\s+", " ", used))
@@ -78,6 +80,7 @@ class File:
                 place = after_partner(self.plain, start)
                 # of several functions of one name, the first counts
                 self.bodies.setdefault((owner, match["name"]), self.plain[start:place])
+                self.heads.setdefault((owner, match["name"]), self.plain[match.end():start])
                 self.wanted.setdefault((owner, match["name"]), arguments if owner else set())
             else:
                 self.bare.add((owner, match["name"]))

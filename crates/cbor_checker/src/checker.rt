@@ -14,7 +14,7 @@ use std::ptr::null_mut;
 /// A strict machine on the heap, or none: a pointer, in the layout of C.
 ///
 /// The ghost field `held` is the machine. No code outside this file makes a `Checker` or reads its
-/// pointer.
+/// pointer. Whether it is null is all that C may read of it, so contracts say it (`IsNull`).
 #[repr(C)]
 #[derive(Drop)]
 pub struct Checker {
@@ -28,9 +28,12 @@ impl Model for Checker {
 }
 
 impl Checker {
+    // Here, because the type's definition would import what the file imports, and `IsNull` imports the type.
+    ghost use Rattle.cbor_checker.specs.Pointer.{IsNull};
+
     /// No machine.
     pub fn none(alloc: Global) -> Checker
-        ensures { result.held ≡ None }
+        ensures { (result.held ≡ None) × IsNull result }
     {
         Checker {
             memory: null_mut(),
@@ -40,7 +43,8 @@ impl Checker {
 
     /// The handle of this machine.
     pub fn of(machine: Box<StrictMachine>) -> Checker
-        ensures { result.held ≡ Some machine.value }
+        ensures held { result.held ≡ Some machine.value }
+        ensures not_null { ¬ IsNull result }
     {
         Checker::of_parts(Parts::of(machine))
     }
@@ -54,7 +58,7 @@ impl Checker {
     }
 
     fn of_parts(parts: Parts<StrictMachine, Global>) -> Checker
-        ensures { result.held ≡ Some parts.value }
+        ensures { (result.held ≡ Some parts.value) × ¬ IsNull result }
     {
         let Parts { ptr, alloc } = parts;
         Checker {

@@ -1,15 +1,17 @@
 -- The entries of a table are items, and lead to one another.
-use Rattle.std.proofs.Common.{◌≡◌, ℕ, zero, suc, ◌+◌, ◌-◌, ◌<◌, List, [], ◌∷◌, ◌++◌, length, drop, Some, refl, sym, ap, ◌∙◌, subst, arith, append_assoc, append-nil, length-append, add-zero}
+use Rattle.std.proofs.Common.{◌≡◌, ℕ, zero, suc, ◌+◌, ◌-◌, ◌<◌, List, [], ◌∷◌, ◌++◌, length, drop, Some, refl, sym, ap, ◌∙◌, subst, arith, append_assoc, append-nil, length-append, length-drop, add-zero}
 use Rattle.std.{specs.Prelude.MatchOption, specs.Prelude.slice_get, proofs.Math.Seq.drop-append_seam, proofs.lemmas.List.drop-drop}
 use Rattle.cbor_head.specs.Value as values
 use Rattle.cbor_head.specs.Value.{Value, Values, Entries, IsInRange, AreInRange, AreEntriesInRange, IsValid, AreValid, AreEntriesValid}
 use Rattle.cbor_head.specs.Prelude.{canonical, head, Spelling, Spellings, SpelledEntries, unsigned, negative, bytes, text, byte_chunks, text_chunks, array, a_map, tag, simple, no_spellings, a_spelling, no_entries, entry, spell, spell_all, spellings_count}
 use Rattle.cbor_head.specs.declared.order.KeyOrder.{KeyOrder}
 use Rattle.theory_values.proofs.Normal.{normal, normal_all, normal_entries, by_put, spell-normal}
+use Rattle.theory_values.proofs.ReadLaws.{length_head}
 use Rattle.cbor_cursor.specs.Index.{major_in, width_in, number_in, head_size, items_count, listed, all_listed, placed}
 use Rattle.cbor_cursor.specs.inner.Definite.{IsDefinite, AreDefinite, AreEntriesDefinite}
 use Rattle.cbor_cursor.proofs.IndexParts.{members_in, payload_in, head_in, spell_parts, length_parts, members_is, count_parts, length-all_listed, listed_parts}
-use Rattle.cbor_cursor.specs.{Items.BeginsWith, Offsets.IsItemAt, Offsets.offsets_of, WellFormed.members_of, declared.placed.PlacedItem.PlacedItem}
+use Rattle.cbor_cursor.specs.Offsets.{IsItemAt, IsWithin, offsets_of}
+use Rattle.cbor_cursor.specs.{Items.BeginsWith, WellFormed.members_of, declared.placed.PlacedItem.PlacedItem}
 use Rattle.cbor_cursor.proofs.{IndexClosed.within, IndexClosed.first_entry, Definite.flat, HeadsAt.same_head, SpelledItems.a_head, SpelledItems.canonical_head}
 
 -- ---- encodings whose parts are all canonical bytes
@@ -83,6 +85,7 @@ module _ (o : KeyOrder) (all : List ℕ) where
     pub value : Value
     pub rest : List ℕ
     pub item : IsItemAt o all value rest (offsets_of x)
+    pub bounds : IsWithin all (offsets_of x)
     pub some : 0 < x.entries
     pub first : 0 < members_of x.kind x.number → StartsAt x.content later
     pub next : GoesOnAt (length all) x.end (drop (x.entries - 1) later)
@@ -102,6 +105,15 @@ module _ (o : KeyOrder) (all : List ℕ) where
         starts = b;
         head = record { kind_is = h.0; argument_is = h.1; content_is = after_bytes all p (head (major_in s) (width_in s) (number_in s)) inside split ∙ h.2 };
         ends = after_bytes all p (spell s) tail e;
+      }
+
+  bounds_of : (s : Spelling) (p : ℕ) (tail : List ℕ) → IsDefinite s → drop p all ≡ spell s ++ tail → IsWithin all (offsets_of (placed p s))
+  bounds_of s p tail d e =
+      let some = length_head (major_in s) (width_in s) (number_in s) in
+      let parts = length_parts s d in record {
+        starts = omega (arith, some);
+        content = omega (arith, parts);
+        ends = omega (arith, some, parts, ap length e, length-drop p all, length-append (spell s) tail);
       }
 
   -- where the items directly inside begin
@@ -135,6 +147,7 @@ module _ (o : KeyOrder) (all : List ℕ) where
           value = i.value;
           rest = tail;
           item = item_of s p tail i d e;
+          bounds = bounds_of s p tail d e;
           some = omega (arith, count_parts s);
           first = λ l. first_at s p rest (omega (arith, l, members_is s));
           next = subst (GoesOnAt (length all) (p + length (spell s))) (sym later) n;

@@ -12,6 +12,7 @@ mod ItemParts
 mod ItemsAt
 mod LaterKeys
 mod NormalValues
+mod OneItem
 mod PairsLeft
 mod Slices
 mod SpelledItems

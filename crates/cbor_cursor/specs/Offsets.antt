@@ -5,7 +5,7 @@ use Rattle.cbor_head.specs.declared.order.KeyOrder.{KeyOrder}
 use Rattle.theory_values.specs.Pairs.{pair_bytes}
 use Rattle.cbor_cursor.specs.declared.lookup.Lookup.TheVariants.{Found, NotThere, NotMap}
 use Rattle.cbor_cursor.specs.declared.{lookup.Lookup.Lookup, items.ItemAt.ItemAt, placed.PlacedItem.PlacedItem}
-use Rattle.cbor_cursor.specs.Items.{BeginsWith, IsHeadOf}
+use Rattle.cbor_cursor.specs.{Items.BeginsWith, Items.IsHeadOf, WellFormed.BeginsWithHead, WellFormed.BeginsWithItem}
 
 -- an item outside a table, by its offsets
 abbrev pub offsets_of : PlacedItem → ItemAt
@@ -39,6 +39,10 @@ pub record IsWithin (bytes : List ℕ) (i : ItemAt) : Type 0 where
   pub starts : i.offset < i.content
   pub content : i.content ≤ i.end
   pub ends : i.end ≤ length bytes
+
+-- a well-formed item is at these offsets
+abbrev pub IsWellFormedAt : List ℕ → ItemAt → Type 0
+IsWellFormedAt bytes i = BeginsWithHead (drop i.offset bytes) i.kind i.argument (drop i.content bytes) × BeginsWithItem (drop i.offset bytes) (drop i.end bytes)
 
 -- one fact for each outcome of a look-up
 abbrev pub MatchLookup : Lookup → (ItemAt → Type 0) → Type 0 → Type 0 → Type 0

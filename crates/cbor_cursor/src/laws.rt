@@ -1,7 +1,7 @@
 //! The laws that connect values, their canonical bytes and what this crate returns for them. These
 //! functions have no code to run: their purpose is their contracts.
 
-ghost use Rattle.std.specs.Prelude.{◌≡◌, ◌<◌, ◌+◌, slice_get, ℕ, List, length, take, MatchOption, Some, None};
+ghost use Rattle.std.specs.Prelude.{◌≡◌, ◌<◌, ◌+◌, slice_get, ℕ, List, length, take, drop, IfSome, MatchOption, Option, Some, None};
 ghost use Rattle.cbor_head.specs.Canonical.{canonical};
 ghost use Rattle.cbor_head.specs.Limits.{Bounds};
 ghost use Rattle.cbor_head.specs.Value.{Value, Same, IsInRange, IsValid};
@@ -9,8 +9,10 @@ ghost use Rattle.cbor_head.specs.declared.order.KeyOrder.{KeyOrder};
 ghost use Rattle.theory_verdicts.specs.Readers.{BeginsWithCanonical, IsCanonicalPrefix, HasNoCanonicalPrefix};
 ghost use Rattle.cbor_head.specs.Spelling.{Spelling, value_of};
 ghost use Rattle.cbor_cursor.specs.Index.{table, IsCanonicalItem};
-ghost use Rattle.cbor_cursor.specs.Offsets.{IsItemAt, offsets_of};
+ghost use Rattle.cbor_cursor.specs.Items.{BeginsWith};
+ghost use Rattle.cbor_cursor.specs.Offsets.{IsItemAt, IsWithin, offsets_of};
 ghost use Rattle.cbor_cursor.specs.WellFormed.{members_of};
+ghost use Rattle.cbor_cursor.specs.declared.items.ItemAt.{ItemAt};
 ghost use Rattle.cbor_cursor.specs.declared.placed.PlacedItem.{PlacedItem};
 ghost use Rattle.cbor_cursor.specs.Decoded.{value_in, encoded};
 ghost use Rattle.theory_values.specs.Lookup.{HasValueAt, member_of};
@@ -47,6 +49,16 @@ pub fn entries_lead_to_items()
     ensures item { (o : KeyOrder) (s : Spelling) (bytes : List ℕ) (i : ℕ) (x : PlacedItem)
         → IsCanonicalItem o s bytes → IsValid (value_of s) → slice_get (table 0 s) i ≡ Some x
         → (v : Value) × (rest : List ℕ) × IsItemAt o bytes v rest (offsets_of x) }
+    ensures within { (o : KeyOrder) (s : Spelling) (bytes : List ℕ) (i : ℕ) (x : PlacedItem)
+        → IsCanonicalItem o s bytes → IsValid (value_of s) → slice_get (table 0 s) i ≡ Some x
+        → IsWithin bytes (offsets_of x) }
+    // Each result that meets the clauses `item`, `offset` and `within` of `item_at` is this item.
+    ensures returned { (o : KeyOrder) (s : Spelling) (bytes : List ℕ) (i : ℕ) (x : PlacedItem) (r : Option ItemAt)
+        → IsCanonicalItem o s bytes → IsValid (value_of s) → slice_get (table 0 s) i ≡ Some x
+        → ((v : Value) (rest : List ℕ) → BeginsWith o (drop x.offset bytes) v rest
+        → MatchOption r ⊥ (λ j. IsItemAt o bytes v rest j))
+        → IfSome r (λ j. j.offset ≡ x.offset) → IfSome r (λ j. IsWithin bytes j)
+        → r ≡ Some (offsets_of x) }
     ensures first { (o : KeyOrder) (s : Spelling) (bytes : List ℕ) (i : ℕ) (x : PlacedItem)
         → IsCanonicalItem o s bytes → IsValid (value_of s) → slice_get (table 0 s) i ≡ Some x
         → 0 < members_of x.kind x.number

@@ -7,7 +7,7 @@ ghost use Rattle.cbor_head.specs.declared.major.Major.TheVariants.{Map};
 ghost use Rattle.cbor_head.specs.Canonical.{canonical};
 ghost use Rattle.cbor_head.specs.declared.order.KeyOrder.{KeyOrder};
 ghost use Rattle.cbor_cursor.specs.Items.{BeginsWith, HasNoKey};
-ghost use Rattle.cbor_cursor.specs.Offsets.{IsItemAt, IsWithin, IsValueAt, HasNoKeyBytes, MatchLookup};
+ghost use Rattle.cbor_cursor.specs.Offsets.{IsItemAt, IsWithin, IsWellFormedAt, IsValueAt, HasNoKeyBytes, MatchLookup};
 ghost use Rattle.cbor_cursor.specs.WellFormed.{BeginsWithHead};
 ghost use Rattle.cbor_cursor.specs.inner.Pairs.{ArePairsOf, BeginsWithValueAt};
 
@@ -50,6 +50,8 @@ pub fn find(bytes: &[u8], offset: usize, key: &[u8]) -> Lookup
         → (result ≡ Lookup.NotMap) ↔ ((es : Entries) → v ≡ map es → ⊥) }
     ensures other_kind { (result ≡ Lookup.NotMap) ↔ ((kind : ℕ) × (argument : ℕ) × (content : List ℕ)
         × BeginsWithHead (drop offset bytes.now) kind argument content × (kind ≢ 5)) }
+    // In any bytes, what it finds is a well-formed item within them.
+    ensures well_formed { MatchLookup result (λ i. IsWellFormedAt bytes.now i) (Unit {0}) (Unit {0}) }
     ensures within { MatchLookup result (λ i. IsWithin bytes.now i) (Unit {0}) (Unit {0}) }
 {
     let Some(head) = definite_head(bytes, offset) else {
@@ -77,6 +79,7 @@ fn find_item(bytes: &[u8], offset: usize, count: u64, head: &[u8], payload: &[u8
         → ArePairsOf o es count (drop offset bytes.now) rest
         → MatchOption result (HasNoKeyBytes o es (head.now ++ payload.now))
         (λ i. IsValueAt o es offset (head.now ++ payload.now) bytes.now rest i) }
+    ensures well_formed { IfSome result (λ i. IsWellFormedAt bytes.now i) }
     ensures within { IfSome result (λ i. IsWithin bytes.now i) }
 {
     let value = value_start(bytes, offset, count, head, payload)?;

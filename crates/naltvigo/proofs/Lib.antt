@@ -3,6 +3,7 @@ mod Compared
 mod Explained
 mod Given
 mod Indexed
+mod OwnInputs
 mod Staying
 mod Reported
 mod WholeInputs

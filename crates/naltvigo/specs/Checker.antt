@@ -1,5 +1,5 @@
 -- What the strict check of an item whose bytes come in parts reports, as C has it.
-use Rattle.std.specs.Prelude.{ℕ, ◌≡◌, ◌≢◌, ◌⊎◌, ◌+◌, ◌++◌, List, [], length, Option, Some, None, IfSome, IsTrue, false}
+use Rattle.std.specs.Prelude.{ℕ, ◌≡◌, ◌≢◌, ◌⊎◌, ◌↔◌, ◌<◌, ◌≤◌, ◌+◌, ◌++◌, List, [], length, Option, Some, None, IfSome, IsTrue, false}
 use Rattle.cbor_head.specs.{Prelude.refusal, declared.reason.Reason.TheVariants.Memory, declared.reason.Reason.TheVariants.Truncated}
 use Rattle.cbor_head.specs.declared.reason.Refusal.{Refusal}
 use Rattle.theory_automaton.specs.Trace.{Mark}
@@ -7,7 +7,10 @@ use Rattle.cbor_machine.specs.declared.step.Out.TheVariants as outs
 use Rattle.cbor_machine.specs.{Machine.IfRefused, Machine.IsComplete, declared.step.Out.Out}
 use Rattle.cbor_stream.specs.StrictMachine.{StrictMachineView, AgreesAmid, limits_of}
 use Rattle.cbor_stream.specs.Said.{Says}
-use Rattle.naltvigo.specs.{Reported.IsReported, Settings.key_order, Settings.item_limits, declared.status.NaltvigoRefusal.NaltvigoRefusal}
+use Rattle.cbor_checker.specs.{Pointer.IsNull, declared.checker.Checker.Checker}
+use Rattle.naltvigo.specs.Settings.{AreLimits, item_limits, key_order}
+use Rattle.naltvigo.specs.declared.status.TheConstants.{BAD_LIMITS, BAD_ORDER, OK}
+use Rattle.naltvigo.specs.{Reported.IsReported, declared.status.NaltvigoRefusal.NaltvigoRefusal}
 
 -- a refusal: 1 of the input, 3 of memory
 abbrev pub IsReportedRefusal : Refusal → ℕ → NaltvigoRefusal → Type 0
@@ -34,6 +37,17 @@ pub record IsNew (held : Option StrictMachineView) (order keys depth bytes : ℕ
   pub order_is : machine.order ≡ key_order order
   -- no request for memory was refused
   pub memory : machine.refused ≡ false
+
+-- What `naltvigo_checker_new_raw` promises: `handle` is the handle before the call, `new_handle` that after it, and `status` is what it returned.
+pub record HasMade (order keys depth bytes : ℕ) (handle new_handle : Checker) (status : ℕ) : Type 0 where
+  pub new : status ≡ OK → IsNew new_handle.held order keys depth bytes
+  pub not_null : status ≡ OK → ¬ IsNull new_handle
+  pub bad_order : (status ≡ BAD_ORDER) ↔ (1 < order)
+  pub bad_limits : status ≡ BAD_LIMITS → ¬ AreLimits keys depth bytes
+  pub in_range : status ≢ BAD_ORDER → status ≢ BAD_LIMITS → (order ≤ 1) × AreLimits keys depth bytes
+  -- OK, NO_MEMORY, BAD_ORDER, BAD_LIMITS
+  pub statuses : (status ≡ 0) ⊎ (status ≡ 3) ⊎ (status ≡ 4) ⊎ (status ≡ 5)
+  pub kept : status ≢ OK → new_handle ≡ handle
 
 -- A machine that goes on with another item, within its limits.
 pub record HasRestarted (old new : Option StrictMachineView) (order : ℕ) : Type 0 where

@@ -1,3 +1,4 @@
+pub mod Canonicalising
 pub mod Checker
 pub mod Checking
 pub mod Comparing
@@ -6,6 +7,7 @@ pub mod Explaining
 pub mod Heads
 pub mod Items
 pub mod Reading
+pub mod Sequence
 pub mod Settings
 pub mod Streaming
 pub mod Writing

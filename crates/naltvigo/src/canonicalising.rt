@@ -1,19 +1,11 @@
 //! Canonical bytes into a buffer of the caller's.
 
-ghost use Rattle.std.specs.Prelude.{◌≡◌, ◌≢◌, ◌↔◌, ◌<◌, ◌≤◌, ℕ, List, length, take, drop, IsTrue};
-ghost use Rattle.cbor_head.specs.Canonical.{canonical};
-ghost use Rattle.cbor_head.specs.Spelling.{Spelling, value_of};
-ghost use Rattle.cbor_reader.specs.Canonicalise.{IsCanonicalOf, IsRefusal, DeterminesItsValue};
-ghost use Rattle.cbor_reader.specs.Canonicalise.{IsCanonicaliserReason};
-ghost use Rattle.cbor_reader.specs.Headline.{IsValidItem};
-ghost use Rattle.naltvigo.specs.Settings.{key_order, item_limits, AreLimits};
-ghost use Rattle.naltvigo.specs.Reported.{ReportsMemory, ReportsOf};
+ghost use Rattle.std.specs.Prelude.{◌≡◌, IsTrue};
+ghost use Rattle.naltvigo.specs.Canonicalising.{HasCanonicalised};
 
 use crate::buffer::give;
 use crate::settings::{limits_of, order_numbered};
-use crate::status::{
-    BAD_LIMITS, BAD_ORDER, NO_MEMORY, NaltvigoRefusal, OK, REFUSED, TOO_SMALL, report,
-};
+use crate::status::{BAD_LIMITS, BAD_ORDER, NO_MEMORY, NaltvigoRefusal, report};
 use cbor_memory::Memory;
 use cbor_reader::canonical_bytes_in;
 use cbor_reader::laws::{
@@ -25,8 +17,8 @@ use std::alloc::Global;
 /// Writes the canonical bytes of the one valid item that `input` is to the prefix of `out`.
 ///
 /// `needed` becomes their number if the status is `OK` or `TOO_SMALL`, else 0, and `refusal` is
-/// filled if it is `REFUSED` or `NO_MEMORY`. Unless it is `OK`, `out` is unchanged. Of an input that
-/// is canonical no copy is made but that in `out`, and no memory is taken.
+/// filled if it is `REFUSED` or `NO_MEMORY`. Unless it is `OK`, `out` is unchanged. For
+/// canonical input it allocates nothing, and the only copy is the one in `out`.
 #[unsafe(no_mangle)]
 pub extern "C" fn naltvigo_canonicalise_raw(
     alloc: Global,
@@ -39,40 +31,8 @@ pub extern "C" fn naltvigo_canonicalise_raw(
     needed: &mut usize,
     refusal: &mut NaltvigoRefusal,
 ) -> u32
-    ensures written { result ≡ OK → IsCanonicalOf (item_limits keys depth bytes) (key_order order)
-        input.now (take needed.new out.new) }
-    ensures accepted { result ≡ OK → (s : Spelling) × IsValidItem (item_limits keys depth bytes) input.now s
-        × (take needed.new out.new ≡ canonical (key_order order) (value_of s))
-        × (needed.new ≤ bytes) }
-    ensures equal { result ≡ OK → DeterminesItsValue depth (key_order order)
-        input.now (take needed.new out.new) }
-    // Canonical input needs no memory.
-    ensures own { IsCanonicalOf (item_limits keys depth bytes) (key_order order) input.now input.now
-        → (result ≢ REFUSED) × (result ≢ NO_MEMORY) }
-    ensures again { result ≡ OK → IsCanonicalOf (item_limits keys depth bytes) (key_order order)
-        (take needed.new out.new) (take needed.new out.new) }
-    ensures space { result ≡ OK → needed.new ≤ length out.old }
-    ensures too_small { result ≡ TOO_SMALL → (x : List ℕ)
-        × IsCanonicalOf (item_limits keys depth bytes) (key_order order) input.now x
-        × (needed.new ≡ length x) × (length out.old < length x) }
-    ensures refused { result ≡ REFUSED
-        → ReportsOf (IsRefusal (item_limits keys depth bytes) (key_order order) input.now) refusal.new }
-    ensures reason { result ≡ REFUSED
-        → ReportsOf (λ f. IsCanonicaliserReason (item_limits keys depth bytes) f.reason) refusal.new }
-    ensures none { result ≡ REFUSED
-        → (s : Spelling) → IsValidItem (item_limits keys depth bytes) input.now s
-        → bytes < length (canonical (key_order order) (value_of s)) }
-    ensures no_memory { result ≡ NO_MEMORY → ReportsMemory 0 refusal.new }
-    ensures bad_order { (result ≡ BAD_ORDER) ↔ (1 < order) }
-    ensures bad_limits { result ≡ BAD_LIMITS → ¬ AreLimits keys depth bytes }
-    ensures in_range { result ≢ BAD_ORDER → result ≢ BAD_LIMITS
-        → (order ≤ 1) × AreLimits keys depth bytes }
-    // OK, REFUSED, TOO_SMALL, NO_MEMORY, BAD_ORDER, BAD_LIMITS
-    ensures statuses { result ≤ 5 }
-    ensures kept { (result ≢ OK → out.new ≡ out.old)
-        × (drop needed.new out.new ≡ drop needed.new out.old) }
-    ensures no_count { result ≢ OK → result ≢ TOO_SMALL → needed.new ≡ 0 }
-    ensures unreported { result ≢ REFUSED → result ≢ NO_MEMORY → refusal.new ≡ refusal.old }
+    ensures canonicalised { HasCanonicalised input.now order keys depth bytes out.old out.new
+        needed.new refusal.old refusal.new result }
 {
     canonicalise_item(
         &mut Memory::new(),
@@ -102,41 +62,9 @@ fn canonicalise_item(
     needed: &mut usize,
     refusal: &mut NaltvigoRefusal,
 ) -> u32
-    ensures written { result ≡ OK → IsCanonicalOf (item_limits keys depth bytes) (key_order order)
-        input.now (take needed.new out.new) }
-    ensures accepted { result ≡ OK → (s : Spelling) × IsValidItem (item_limits keys depth bytes) input.now s
-        × (take needed.new out.new ≡ canonical (key_order order) (value_of s))
-        × (needed.new ≤ bytes) }
-    ensures equal { result ≡ OK → DeterminesItsValue depth (key_order order)
-        input.now (take needed.new out.new) }
-    // Canonical input needs no memory.
-    ensures own { IsCanonicalOf (item_limits keys depth bytes) (key_order order) input.now input.now
-        → (result ≢ REFUSED) × (result ≢ NO_MEMORY) }
-    ensures again { result ≡ OK → IsCanonicalOf (item_limits keys depth bytes) (key_order order)
-        (take needed.new out.new) (take needed.new out.new) }
-    ensures space { result ≡ OK → needed.new ≤ length out.old }
-    ensures too_small { result ≡ TOO_SMALL → (x : List ℕ)
-        × IsCanonicalOf (item_limits keys depth bytes) (key_order order) input.now x
-        × (needed.new ≡ length x) × (length out.old < length x) }
-    ensures refused { result ≡ REFUSED
-        → ReportsOf (IsRefusal (item_limits keys depth bytes) (key_order order) input.now) refusal.new }
-    ensures reason { result ≡ REFUSED
-        → ReportsOf (λ f. IsCanonicaliserReason (item_limits keys depth bytes) f.reason) refusal.new }
-    ensures none { result ≡ REFUSED
-        → (s : Spelling) → IsValidItem (item_limits keys depth bytes) input.now s
-        → bytes < length (canonical (key_order order) (value_of s)) }
-    ensures no_memory { result ≡ NO_MEMORY → ReportsMemory 0 refusal.new }
+    ensures canonicalised { HasCanonicalised input.now order keys depth bytes out.old out.new
+        needed.new refusal.old refusal.new result }
     ensures request { result ≡ NO_MEMORY → IsTrue memory.new }
-    ensures bad_order { (result ≡ BAD_ORDER) ↔ (1 < order) }
-    ensures bad_limits { result ≡ BAD_LIMITS → ¬ AreLimits keys depth bytes }
-    ensures in_range { result ≢ BAD_ORDER → result ≢ BAD_LIMITS
-        → (order ≤ 1) × AreLimits keys depth bytes }
-    // OK, REFUSED, TOO_SMALL, NO_MEMORY, BAD_ORDER, BAD_LIMITS
-    ensures statuses { result ≤ 5 }
-    ensures kept { (result ≢ OK → out.new ≡ out.old)
-        × (drop needed.new out.new ≡ drop needed.new out.old) }
-    ensures no_count { result ≢ OK → result ≢ TOO_SMALL → needed.new ≡ 0 }
-    ensures unreported { result ≢ REFUSED → result ≢ NO_MEMORY → refusal.new ≡ refusal.old }
 {
     *needed = 0;
     let Some(order) = order_numbered(order) else {

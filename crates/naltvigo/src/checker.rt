@@ -1,10 +1,10 @@
 //! The strict check of an item whose bytes come in parts.
 
-ghost use Rattle.std.specs.Prelude.{◌≡◌, ◌≢◌, ◌⊎◌, ◌↔◌, ◌<◌, ◌≤◌, length, take, None, []};
+ghost use Rattle.std.specs.Prelude.{◌≡◌, ◌≢◌, ◌⊎◌, ◌↔◌, ◌<◌, ◌≤◌, length, take, None, [], IsTrue};
 ghost use Rattle.cbor_checker.specs.Checker.{IsHeld};
-ghost use Rattle.naltvigo.specs.Checker.{IsNew, HasRestarted, HasChecked};
+ghost use Rattle.cbor_checker.specs.Pointer.{IsNull};
+ghost use Rattle.naltvigo.specs.Checker.{HasMade, HasRestarted, HasChecked};
 ghost use Rattle.naltvigo.specs.Checker.{IsReportedPart, IsReportedAtEnd};
-ghost use Rattle.naltvigo.specs.Settings.{AreLimits};
 ghost use Rattle.cbor_machine.specs.Machine.{IsMore};
 
 use crate::settings::{limits_of, order_numbered};
@@ -13,6 +13,7 @@ use crate::status::{
 };
 use cbor_checker::{Checker, Out, StrictMachine};
 use cbor_head::{Reason, Refusal};
+use cbor_memory::Memory;
 use std::alloc::Global;
 use std::mem::replace;
 
@@ -27,14 +28,32 @@ pub extern "C" fn naltvigo_checker_new_raw(
     bytes: u64,
     checker: &mut Checker,
 ) -> u32
-    ensures new { result ≡ OK → IsNew checker.new.held order keys depth bytes }
-    ensures bad_order { (result ≡ BAD_ORDER) ↔ (1 < order) }
-    ensures bad_limits { result ≡ BAD_LIMITS → ¬ AreLimits keys depth bytes }
-    ensures in_range { result ≢ BAD_ORDER → result ≢ BAD_LIMITS
-        → (order ≤ 1) × AreLimits keys depth bytes }
-    // OK, NO_MEMORY, BAD_ORDER, BAD_LIMITS
-    ensures statuses { (result ≡ 0) ⊎ (result ≡ 3) ⊎ (result ≡ 4) ⊎ (result ≡ 5) }
-    ensures kept { result ≢ OK → checker.new.held ≡ checker.old.held }
+    ensures made { HasMade order keys depth bytes checker.old checker.new result }
+{
+    make_checker(
+        &mut Memory::new(),
+        alloc,
+        order,
+        keys,
+        depth,
+        bytes,
+        checker,
+    )
+}
+
+// Makes a machine as the export does, and records in `memory` whether a request for memory was refused. If none was, it
+// does not return `NO_MEMORY`.
+fn make_checker(
+    memory: &mut Memory,
+    alloc: Global,
+    order: u32,
+    keys: u32,
+    depth: u32,
+    bytes: u64,
+    checker: &mut Checker,
+) -> u32
+    ensures made { HasMade order keys depth bytes checker.old checker.new result }
+    ensures request { result ≡ NO_MEMORY → IsTrue memory.new }
 {
     let Some(order) = order_numbered(order) else {
         return BAD_ORDER;
@@ -42,7 +61,7 @@ pub extern "C" fn naltvigo_checker_new_raw(
     let Some(limits) = limits_of(keys, depth, bytes) else {
         return BAD_LIMITS;
     };
-    match Box::new(alloc, StrictMachine::new(alloc, limits, order)) {
+    match memory.boxed(alloc, StrictMachine::new(alloc, limits, order)) {
         Ok(machine) => {
             *checker = Checker::of(machine);
             OK
@@ -60,10 +79,11 @@ pub extern "C" fn naltvigo_checker_restart_raw(
 ) -> u32
     requires held { IsHeld checker.old.held }
     ensures restarted { result ≡ OK → HasRestarted checker.old.held checker.new.held order }
+    ensures not_null { result ≡ OK → ¬ IsNull checker.new }
     ensures bad_order { (result ≡ BAD_ORDER) ↔ (1 < order) }
     // OK, BAD_ORDER
     ensures statuses { (result ≡ 0) ⊎ (result ≡ 4) }
-    ensures kept { result ≢ OK → checker.new.held ≡ checker.old.held }
+    ensures kept { result ≢ OK → checker.new ≡ checker.old }
 {
     let Some(order) = order_numbered(order) else {
         return BAD_ORDER;
@@ -88,6 +108,7 @@ pub extern "C" fn naltvigo_checker_feed_raw(
     ensures used { used.new ≤ length input.now }
     ensures checked { HasChecked checker.old.held checker.new.held (take used.new input.now)
         (λ out now. IsReportedPart out result refusal.new × (IsMore out → used.new ≡ length input.now)) }
+    ensures not_null { ¬ IsNull checker.new }
     // OK, REFUSED, NO_MEMORY, MORE
     ensures statuses { (result ≡ 0) ⊎ (result ≡ 1) ⊎ (result ≡ 3) ⊎ (result ≡ 8) }
     ensures unreported { result ≢ REFUSED → result ≢ NO_MEMORY → refusal.new ≡ refusal.old }
@@ -114,6 +135,7 @@ pub extern "C" fn naltvigo_checker_end_raw(
     requires held { IsHeld checker.old.held }
     ensures checked { HasChecked checker.old.held checker.new.held []
         (λ out now. IsReportedAtEnd now.machine.taken out result refusal.new) }
+    ensures not_null { ¬ IsNull checker.new }
     // OK, REFUSED, NO_MEMORY
     ensures statuses { (result ≡ 0) ⊎ (result ≡ 1) ⊎ (result ≡ 3) }
     ensures unreported { result ≡ OK → refusal.new ≡ refusal.old }
@@ -132,11 +154,12 @@ pub extern "C" fn naltvigo_checker_end_raw(
     }
 }
 
-/// Frees the machine. The handle holds none then.
+/// Frees the machine. The handle holds none then, and its pointer is null.
 #[unsafe(no_mangle)]
 pub extern "C" fn naltvigo_checker_free_raw(alloc: Global, checker: &mut Checker) -> u32
     requires held { IsHeld checker.old.held }
     ensures freed { checker.new.held ≡ None }
+    ensures null { IsNull checker.new }
     // OK
     ensures statuses { result ≡ OK }
 {

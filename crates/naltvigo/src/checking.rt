@@ -2,13 +2,15 @@
 
 ghost use Rattle.std.specs.Prelude.{◌≡◌, ◌≢◌, ◌↔◌, ◌⊎◌, ◌<◌, ◌≤◌, length, IfOk, IfErr, IsTrue};
 ghost use Rattle.cbor_head.specs.Complaint.{plain, strict};
+ghost use Rattle.cbor_head.specs.Value.{Value};
+ghost use Rattle.cbor_head.specs.declared.order.KeyOrder.TheVariants as orders;
 ghost use Rattle.cbor_head.specs.declared.reason.Reason.TheVariants as reasons;
 ghost use Rattle.cbor_reader.specs.Canonicalise.{IsCanonicalOf};
-ghost use Rattle.theory_verdicts.specs.Readers.{IsRead, IsCanonicalPrefix, ReportsMemoryAtStart};
+ghost use Rattle.theory_verdicts.specs.Readers.{BeginsWithCanonical, IsRead, IsCanonicalPrefix, ReportsMemoryAtStart};
 ghost use Rattle.cbor_reader.specs.WholeItem.{IsWholeItem, IsItemRefusal};
 ghost use Rattle.naltvigo.specs.Settings.{key_order, item_limits, AreLimits};
-ghost use Rattle.naltvigo.specs.Checking.{HasNoWholePrefix};
-ghost use Rattle.naltvigo.specs.Reported.{ReportsMemory, ReportsOf};
+ghost use Rattle.naltvigo.specs.Checking.{HasCheckedValid, HasNoWholePrefix};
+ghost use Rattle.naltvigo.specs.Reported.{ReportsOf};
 ghost use Rattle.naltvigo.specs.inner.Checking.{IsOwnResult, IsNotOwn};
 
 use crate::settings::{limits_of, order_numbered};
@@ -17,11 +19,14 @@ use crate::status::{
 };
 use cbor_head::{KeyOrder, Limits, Refusal};
 use cbor_memory::Memory;
-use cbor_reader::laws::{items_and_their_refusals, own_results_are_strictly_accepted, valid_items};
+use cbor_reader::laws::{
+    inputs_with_results_are_valid_items, items_and_their_refusals,
+    own_results_are_strictly_accepted, strictly_accepted_prefixes, valid_items,
+};
 use cbor_reader::{check_canonical, check_valid_in};
 use std::alloc::Global;
 
-/// Whether `input` is exactly one valid item in its canonical bytes. It takes no memory.
+/// Whether `input` is exactly one valid item in its canonical bytes. It allocates nothing.
 #[unsafe(no_mangle)]
 pub extern "C" fn naltvigo_check_canonical_raw(
     input: &[u8],
@@ -67,7 +72,8 @@ pub extern "C" fn naltvigo_check_canonical_raw(
     }
 }
 
-/// Whether `input` is exactly one valid item.
+/// Whether `input` is exactly one valid item. For input that begins with an item in its canonical
+/// bytes, in the bytewise order, it allocates nothing.
 #[unsafe(no_mangle)]
 pub extern "C" fn naltvigo_check_valid_raw(
     alloc: Global,
@@ -77,16 +83,7 @@ pub extern "C" fn naltvigo_check_valid_raw(
     bytes: u64,
     refusal: &mut NaltvigoRefusal,
 ) -> u32
-    ensures accepted { result ≡ OK → IsWholeItem (item_limits keys depth bytes) input.now }
-    ensures refused { result ≡ REFUSED
-        → ReportsOf (IsItemRefusal (item_limits keys depth bytes) plain input.now) refusal.new }
-    ensures not_accepted { result ≡ REFUSED → ¬ IsWholeItem (item_limits keys depth bytes) input.now }
-    ensures no_memory { result ≡ NO_MEMORY → ReportsMemory 0 refusal.new }
-    ensures bad_limits { (result ≡ BAD_LIMITS) → ¬ AreLimits keys depth bytes }
-    ensures in_range { result ≢ BAD_LIMITS → AreLimits keys depth bytes }
-    // OK, REFUSED, NO_MEMORY, BAD_LIMITS
-    ensures statuses { (result ≡ 0) ⊎ (result ≡ 1) ⊎ (result ≡ 3) ⊎ (result ≡ 5) }
-    ensures unreported { result ≢ REFUSED → result ≢ NO_MEMORY → refusal.new ≡ refusal.old }
+    ensures checked { HasCheckedValid input.now keys depth bytes refusal.old refusal.new result }
 {
     check_valid_item(
         &mut Memory::new(),
@@ -110,21 +107,15 @@ fn check_valid_item(
     bytes: u64,
     refusal: &mut NaltvigoRefusal,
 ) -> u32
-    ensures accepted { result ≡ OK → IsWholeItem (item_limits keys depth bytes) input.now }
-    ensures refused { result ≡ REFUSED
-        → ReportsOf (IsItemRefusal (item_limits keys depth bytes) plain input.now) refusal.new }
-    ensures not_accepted { result ≡ REFUSED → ¬ IsWholeItem (item_limits keys depth bytes) input.now }
-    ensures no_memory { result ≡ NO_MEMORY → ReportsMemory 0 refusal.new }
+    ensures checked { HasCheckedValid input.now keys depth bytes refusal.old refusal.new result }
     ensures request { result ≡ NO_MEMORY → IsTrue memory.new }
-    ensures bad_limits { (result ≡ BAD_LIMITS) → ¬ AreLimits keys depth bytes }
-    ensures in_range { result ≢ BAD_LIMITS → AreLimits keys depth bytes }
-    // OK, REFUSED, NO_MEMORY, BAD_LIMITS
-    ensures statuses { (result ≡ 0) ⊎ (result ≡ 1) ⊎ (result ≡ 3) ⊎ (result ≡ 5) }
-    ensures unreported { result ≢ REFUSED → result ≢ NO_MEMORY → refusal.new ≡ refusal.old }
 {
     let Some(limits) = limits_of(keys, depth, bytes) else {
         return BAD_LIMITS;
     };
+    own_results_are_strictly_accepted();
+    strictly_accepted_prefixes();
+    inputs_with_results_are_valid_items();
     match check_whole_item(memory, alloc, input, limits) {
         Ok(()) => OK,
         Err(reason) => report(reason, refusal),
@@ -154,6 +145,8 @@ pub(crate) fn check_whole_item(
 ) -> Result<(), Refusal>
     ensures accepted { IfOk result (λ _. IsWholeItem limits input.now) }
     ensures refused { IfErr result (IsItemRefusal limits plain input.now) }
+    ensures own { IfErr result (λ f. (v : Value)
+        → BeginsWithCanonical limits orders.Bytewise input.now v → f.reason ≢ reasons.Memory) }
     ensures memory { IfErr result ReportsMemoryAtStart }
     ensures request { IfErr result (λ f. f.reason ≡ reasons.Memory → IsTrue memory.new) }
     ensures not_accepted { IfErr result (λ f. f.reason ≢ reasons.Memory

@@ -1,18 +1,12 @@
 //! Whether two inputs mean the same.
 
-ghost use Rattle.std.specs.Prelude.{◌≡◌, ◌≢◌, ◌⊎◌, IsTrue};
-ghost use Rattle.cbor_head.specs.Spelling.{Spelling, value_of};
-ghost use Rattle.cbor_head.specs.Value.{Same};
-ghost use Rattle.cbor_reader.specs.Comparing.{IsSideRefusal, MeanTheSame, memory_of};
-ghost use Rattle.cbor_reader.specs.Headline.{IsValidItem};
-ghost use Rattle.cbor_reader.specs.WholeItem.{IsWholeItem};
+ghost use Rattle.std.specs.Prelude.{◌≡◌, IsTrue};
+ghost use Rattle.cbor_reader.specs.Comparing.{memory_of};
 ghost use Rattle.cbor_reader.specs.declared.comparison.Side.{Side};
-ghost use Rattle.naltvigo.specs.Comparing.{side_number as number_of};
-ghost use Rattle.naltvigo.specs.Settings.{item_limits, AreLimits};
-ghost use Rattle.naltvigo.specs.Reported.{ReportsMemory, ReportsOf};
+ghost use Rattle.naltvigo.specs.Comparing.{HasCompared, side_number as number_of};
 
 use crate::settings::limits_of;
-use crate::status::{BAD_LIMITS, DIFFERENT, NO_MEMORY, NaltvigoRefusal, OK, REFUSED, report};
+use crate::status::{BAD_LIMITS, DIFFERENT, NO_MEMORY, NaltvigoRefusal, OK, report};
 use cbor_memory::Memory;
 use cbor_reader::{Side, same_meaning_in};
 use std::alloc::Global;
@@ -24,7 +18,9 @@ pub const RIGHT: u32 = 1;
 
 /// Whether the one valid item that each input is has the same value: `OK` or `DIFFERENT`.
 ///
-/// `side` and `refusal` are filled if the status is `REFUSED` or `NO_MEMORY`.
+/// `side` and `refusal` are filled if the status is `REFUSED` or `NO_MEMORY`. For a side in its
+/// canonical bytes, in the bytewise order, it allocates nothing, nor for a right one with the bytes
+/// of the left.
 #[unsafe(no_mangle)]
 pub extern "C" fn naltvigo_compare_raw(
     alloc: Global,
@@ -36,33 +32,8 @@ pub extern "C" fn naltvigo_compare_raw(
     side: &mut u32,
     refusal: &mut NaltvigoRefusal,
 ) -> u32
-    ensures same { result ≡ OK → MeanTheSame (item_limits keys depth bytes) left.now right.now }
-    ensures different { result ≡ DIFFERENT
-        → ¬ MeanTheSame (item_limits keys depth bytes) left.now right.now }
-    ensures accepted { (result ≡ OK) ⊎ (result ≡ DIFFERENT)
-        → IsWholeItem (item_limits keys depth bytes) left.now
-        × IsWholeItem (item_limits keys depth bytes) right.now }
-    ensures values { result ≡ OK → (s t : Spelling)
-        → IsValidItem (item_limits keys depth bytes) left.now s
-        → IsValidItem (item_limits keys depth bytes) right.now t
-        → Same (value_of s) (value_of t) }
-    ensures other_values { result ≡ DIFFERENT → (s t : Spelling)
-        → IsValidItem (item_limits keys depth bytes) left.now s
-        → IsValidItem (item_limits keys depth bytes) right.now t
-        → ¬ Same (value_of s) (value_of t) }
-    ensures refused { result ≡ REFUSED → (s : Side) × (side.new ≡ number_of s)
-        × ReportsOf (IsSideRefusal (item_limits keys depth bytes) left.now right.now s) refusal.new }
-    ensures only { result ≡ REFUSED → IsWholeItem (item_limits keys depth bytes) left.now
-        → ¬ IsWholeItem (item_limits keys depth bytes) right.now }
-    ensures no_memory { result ≡ NO_MEMORY → ReportsMemory 0 refusal.new }
-    ensures memory_side { result ≡ NO_MEMORY → (side.new ≡ LEFT)
-        ⊎ ((side.new ≡ RIGHT) × IsWholeItem (item_limits keys depth bytes) left.now) }
-    ensures bad_limits { result ≡ BAD_LIMITS → ¬ AreLimits keys depth bytes }
-    ensures in_range { result ≢ BAD_LIMITS → AreLimits keys depth bytes }
-    // OK, DIFFERENT, REFUSED, NO_MEMORY, BAD_LIMITS
-    ensures statuses { (result ≡ 0) ⊎ (result ≡ 6) ⊎ (result ≡ 1) ⊎ (result ≡ 3) ⊎ (result ≡ 5) }
-    ensures unreported { result ≢ REFUSED → result ≢ NO_MEMORY
-        → (side.new ≡ side.old) × (refusal.new ≡ refusal.old) }
+    ensures compared { HasCompared left.now right.now keys depth bytes side.old side.new
+        refusal.old refusal.new result }
 {
     compare_items(
         &mut Memory::new(),
@@ -92,35 +63,10 @@ fn compare_items(
     side: &mut u32,
     refusal: &mut NaltvigoRefusal,
 ) -> u32
-    ensures same { result ≡ OK → MeanTheSame (item_limits keys depth bytes) left.now right.now }
-    ensures different { result ≡ DIFFERENT
-        → ¬ MeanTheSame (item_limits keys depth bytes) left.now right.now }
-    ensures accepted { (result ≡ OK) ⊎ (result ≡ DIFFERENT)
-        → IsWholeItem (item_limits keys depth bytes) left.now
-        × IsWholeItem (item_limits keys depth bytes) right.now }
-    ensures values { result ≡ OK → (s t : Spelling)
-        → IsValidItem (item_limits keys depth bytes) left.now s
-        → IsValidItem (item_limits keys depth bytes) right.now t
-        → Same (value_of s) (value_of t) }
-    ensures other_values { result ≡ DIFFERENT → (s t : Spelling)
-        → IsValidItem (item_limits keys depth bytes) left.now s
-        → IsValidItem (item_limits keys depth bytes) right.now t
-        → ¬ Same (value_of s) (value_of t) }
-    ensures refused { result ≡ REFUSED → (s : Side) × (side.new ≡ number_of s)
-        × ReportsOf (IsSideRefusal (item_limits keys depth bytes) left.now right.now s) refusal.new }
-    ensures only { result ≡ REFUSED → IsWholeItem (item_limits keys depth bytes) left.now
-        → ¬ IsWholeItem (item_limits keys depth bytes) right.now }
-    ensures no_memory { result ≡ NO_MEMORY → ReportsMemory 0 refusal.new }
-    ensures memory_side { result ≡ NO_MEMORY → (side.new ≡ LEFT)
-        ⊎ ((side.new ≡ RIGHT) × IsWholeItem (item_limits keys depth bytes) left.now) }
+    ensures compared { HasCompared left.now right.now keys depth bytes side.old side.new
+        refusal.old refusal.new result }
     ensures request { result ≡ NO_MEMORY → (s : Side) × (side.new ≡ number_of s)
         × IsTrue (memory_of s left_memory.new right_memory.new) }
-    ensures bad_limits { result ≡ BAD_LIMITS → ¬ AreLimits keys depth bytes }
-    ensures in_range { result ≢ BAD_LIMITS → AreLimits keys depth bytes }
-    // OK, DIFFERENT, REFUSED, NO_MEMORY, BAD_LIMITS
-    ensures statuses { (result ≡ 0) ⊎ (result ≡ 6) ⊎ (result ≡ 1) ⊎ (result ≡ 3) ⊎ (result ≡ 5) }
-    ensures unreported { result ≢ REFUSED → result ≢ NO_MEMORY
-        → (side.new ≡ side.old) × (refusal.new ≡ refusal.old) }
 {
     let Some(limits) = limits_of(keys, depth, bytes) else {
         return BAD_LIMITS;

@@ -24,7 +24,7 @@ use cbor_reader::laws::valid_items;
 ///
 /// `needed` becomes the number of entries if the status is `OK` or `TOO_SMALL`, else 0. If it is
 /// `TOO_SMALL`, the content of `items` is no table: there are more entries than `items` has space
-/// for, or than any table has. It takes no memory.
+/// for, or than any table has. It allocates nothing.
 #[unsafe(no_mangle)]
 pub extern "C" fn naltvigo_index_raw(
     input: &[u8],

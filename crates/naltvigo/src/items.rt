@@ -7,7 +7,7 @@ ghost use Rattle.cbor_head.specs.Value.{Value, Entries, AnyEntry, Same, IsInRang
 ghost use Rattle.cbor_head.specs.declared.major.Major.TheVariants.{Map};
 ghost use Rattle.cbor_head.specs.declared.order.KeyOrder.{KeyOrder};
 ghost use Rattle.cbor_cursor.specs.Items.{BeginsWith, HasNoKey};
-ghost use Rattle.cbor_cursor.specs.Offsets.{IsItemAt, IsWithin, IsValueAt, HasNoKeyBytes, offsets_of};
+ghost use Rattle.cbor_cursor.specs.Offsets.{IsItemAt, IsWellFormedAt, IsWithin, IsValueAt, HasNoKeyBytes, offsets_of};
 ghost use Rattle.cbor_cursor.specs.WellFormed.{BeginsWithHead, BeginsWithItem, HasNoItem};
 
 use crate::status::{NOT_FOUND, OK, WRONG_KIND};
@@ -44,8 +44,8 @@ pub extern "C" fn naltvigo_item_at_raw(input: &[u8], offset: u64, item: &mut Pla
 /// The value at a key of the map at an offset. It takes any bytes, any offset and any key.
 ///
 /// If a map begins there in its canonical bytes, it returns `OK` exactly if the map has the key of these
-/// canonical bytes, and the item is the value of that pair. It reads the pairs once, and takes
-/// no memory.
+/// canonical bytes, and the item is the value of that pair. It reads the pairs once, and
+/// allocates nothing.
 #[unsafe(no_mangle)]
 pub extern "C" fn naltvigo_find_raw(
     input: &[u8],
@@ -69,6 +69,7 @@ pub extern "C" fn naltvigo_find_raw(
     ensures other_kind { (result ≡ WRONG_KIND) ↔ ((kind : ℕ) × (argument : ℕ) × (content : List ℕ)
         × BeginsWithHead (drop offset input.now) kind argument content × (kind ≢ 5)) }
     ensures within { result ≡ OK → IsWithin input.now (offsets_of value.new) }
+    ensures well_formed { result ≡ OK → IsWellFormedAt input.now (offsets_of value.new) }
     ensures entries { result ≡ OK → value.new.entries ≡ 0 }
     // OK, NOT_FOUND, WRONG_KIND
     ensures statuses { (result ≡ 0) ⊎ (result ≡ 10) ⊎ (result ≡ 11) }

@@ -40,6 +40,8 @@ pub extern "C" fn naltvigo_get_number_raw(
         → result ≡ OUT_OF_RANGE }
     ensures wrong_kind { earlier status found ≡ 0 → item.now.kind ≢ kind → (2 ≤ item.now.kind) ⊎ (2 ≤ kind)
         → result ≡ WRONG_KIND }
+    // OK, WRONG_KIND, OUT_OF_RANGE
+    ensures statuses { earlier status found ≡ 0 → (result ≡ 0) ⊎ (result ≡ 11) ⊎ (result ≡ 13) }
     ensures none { result ≢ OK → number.new ≡ 0 }
 {
     *number = 0;
@@ -74,6 +76,8 @@ pub extern "C" fn naltvigo_get_int_raw(
     ensures range { earlier status found ≡ 0 → item.now.kind < 2 → 2 ^ 63 ≤ item.now.number
         → result ≡ OUT_OF_RANGE }
     ensures wrong_kind { earlier status found ≡ 0 → 2 ≤ item.now.kind → result ≡ WRONG_KIND }
+    // OK, WRONG_KIND, OUT_OF_RANGE
+    ensures statuses { earlier status found ≡ 0 → (result ≡ 0) ⊎ (result ≡ 11) ⊎ (result ≡ 13) }
     ensures none { result ≢ OK → number.new ≡ pos 0 }
 {
     *number = 0;
@@ -107,6 +111,8 @@ pub extern "C" fn naltvigo_get_count_raw(
     ensures count { earlier status found ≡ 0 → (item.now.kind ≡ 4) ⊎ (item.now.kind ≡ 5)
         → (result ≡ OK) × (count.new ≡ item.now.number) }
     ensures wrong_kind { earlier status found ≡ 0 → item.now.kind ≢ 4 → item.now.kind ≢ 5 → result ≡ WRONG_KIND }
+    // OK, WRONG_KIND
+    ensures statuses { earlier status found ≡ 0 → (result ≡ 0) ⊎ (result ≡ 11) }
     ensures none { result ≢ OK → count.new ≡ 0 }
 {
     *count = 0;
@@ -134,6 +140,8 @@ pub extern "C" fn naltvigo_get_bool_raw(
         → (result ≡ OK) × (is_true.new ≡ item.now.number - 20) }
     ensures wrong_kind { earlier status found ≡ 0
         → (item.now.kind ≢ 7) ⊎ ((item.now.number ≢ 20) × (item.now.number ≢ 21)) → result ≡ WRONG_KIND }
+    // OK, WRONG_KIND
+    ensures statuses { earlier status found ≡ 0 → (result ≡ 0) ⊎ (result ≡ 11) }
     ensures none { result ≢ OK → is_true.new ≡ 0 }
 {
     *is_true = 0;
@@ -163,6 +171,8 @@ pub extern "C" fn naltvigo_get_string_raw(
     ensures string { earlier status found ≡ 0 → item.now.kind ≡ kind → (result ≡ OK)
         × (start.new ≡ item.now.content) × (length.new ≡ item.now.end - item.now.content) }
     ensures wrong_kind { earlier status found ≡ 0 → item.now.kind ≢ kind → result ≡ WRONG_KIND }
+    // OK, WRONG_KIND
+    ensures statuses { earlier status found ≡ 0 → (result ≡ 0) ⊎ (result ≡ 11) }
     ensures none { result ≢ OK → (start.new ≡ 0) × (length.new ≡ 0) }
 {
     *start = 0;

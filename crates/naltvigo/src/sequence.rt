@@ -1,11 +1,12 @@
 //! The item at the start of a buffer, as in a sequence of items (RFC 8742).
 
 ghost use Rattle.std.specs.Prelude.{◌≡◌, ◌≢◌, ◌↔◌, ◌⊎◌, ◌<◌, ◌≤◌, IsTrue};
-ghost use Rattle.cbor_head.specs.Complaint.{plain, strict};
+ghost use Rattle.cbor_head.specs.Complaint.{strict};
 ghost use Rattle.cbor_head.specs.Verdict.{IsVerdict, refused};
 ghost use Rattle.theory_verdicts.specs.Readers.{HasNoCanonicalPrefix, IsCanonicalPrefix, IsRead};
+ghost use Rattle.naltvigo.specs.Sequence.{HasCheckedNext};
 ghost use Rattle.naltvigo.specs.Settings.{key_order, item_limits, AreLimits};
-ghost use Rattle.naltvigo.specs.Reported.{ReportsMemory, ReportsOf};
+ghost use Rattle.naltvigo.specs.Reported.{ReportsOf};
 
 use crate::settings::{limits_of, order_numbered};
 use crate::status::{
@@ -16,7 +17,8 @@ use cbor_reader::{check_canonical, check_valid_in};
 use std::alloc::Global;
 
 /// Whether `input` begins with one valid item; `taken` becomes the number of its bytes, and 0 if
-/// the status is not `OK`.
+/// the status is not `OK`. For an item in its canonical bytes, in the bytewise order, it allocates
+/// nothing.
 #[unsafe(no_mangle)]
 pub extern "C" fn naltvigo_next_valid_raw(
     alloc: Global,
@@ -27,17 +29,8 @@ pub extern "C" fn naltvigo_next_valid_raw(
     taken: &mut u64,
     refusal: &mut NaltvigoRefusal,
 ) -> u32
-    ensures accepted { result ≡ OK → IsRead (item_limits keys depth bytes) plain input.now taken.new }
-    ensures refused { result ≡ REFUSED
-        → ReportsOf (λ f. IsVerdict (item_limits keys depth bytes) plain input.now (refused f))
-        refusal.new }
-    ensures no_memory { result ≡ NO_MEMORY → ReportsMemory 0 refusal.new }
-    ensures bad_limits { result ≡ BAD_LIMITS → ¬ AreLimits keys depth bytes }
-    ensures in_range { result ≢ BAD_LIMITS → AreLimits keys depth bytes }
-    // OK, REFUSED, NO_MEMORY, BAD_LIMITS
-    ensures statuses { (result ≡ 0) ⊎ (result ≡ 1) ⊎ (result ≡ 3) ⊎ (result ≡ 5) }
-    ensures no_count { result ≢ OK → taken.new ≡ 0 }
-    ensures unreported { result ≢ REFUSED → result ≢ NO_MEMORY → refusal.new ≡ refusal.old }
+    ensures checked { HasCheckedNext input.now keys depth bytes taken.new refusal.old refusal.new
+        result }
 {
     check_next_item(
         &mut Memory::new(),
@@ -63,18 +56,9 @@ fn check_next_item(
     taken: &mut u64,
     refusal: &mut NaltvigoRefusal,
 ) -> u32
-    ensures accepted { result ≡ OK → IsRead (item_limits keys depth bytes) plain input.now taken.new }
-    ensures refused { result ≡ REFUSED
-        → ReportsOf (λ f. IsVerdict (item_limits keys depth bytes) plain input.now (refused f))
-        refusal.new }
-    ensures no_memory { result ≡ NO_MEMORY → ReportsMemory 0 refusal.new }
+    ensures checked { HasCheckedNext input.now keys depth bytes taken.new refusal.old refusal.new
+        result }
     ensures request { result ≡ NO_MEMORY → IsTrue memory.new }
-    ensures bad_limits { result ≡ BAD_LIMITS → ¬ AreLimits keys depth bytes }
-    ensures in_range { result ≢ BAD_LIMITS → AreLimits keys depth bytes }
-    // OK, REFUSED, NO_MEMORY, BAD_LIMITS
-    ensures statuses { (result ≡ 0) ⊎ (result ≡ 1) ⊎ (result ≡ 3) ⊎ (result ≡ 5) }
-    ensures no_count { result ≢ OK → taken.new ≡ 0 }
-    ensures unreported { result ≢ REFUSED → result ≢ NO_MEMORY → refusal.new ≡ refusal.old }
 {
     *taken = 0;
     let Some(limits) = limits_of(keys, depth, bytes) else {

@@ -39,7 +39,7 @@ pub struct NaltvigoEvent {
     pub width: u32,
 }
 
-/// Makes `machine` one before an item's first byte. It takes no memory.
+/// Makes `machine` one before an item's first byte. It allocates nothing.
 #[unsafe(no_mangle)]
 pub extern "C" fn naltvigo_machine_start_raw(
     depth: u32,
@@ -64,8 +64,8 @@ pub extern "C" fn naltvigo_machine_start_raw(
 
 /// Takes bytes from the prefix of `input` and reports their events, in the first of `events`, until
 /// these are full, or a byte is refused, or none is left: `used` says how many bytes, and `reported` how
-/// many events. Once the item is complete, or refused, it uses nothing and returns the same. It takes
-/// no memory.
+/// many events. Once the item is complete, or refused, it uses nothing and returns the same. It
+/// allocates nothing.
 #[unsafe(no_mangle)]
 pub extern "C" fn naltvigo_machine_feed_raw(
     machine: &mut SavedMachine,
@@ -92,6 +92,8 @@ pub extern "C" fn naltvigo_machine_feed_raw(
         × (2 ≤ refusal.new.reason) × (refusal.new.reason ≤ 9) }
     ensures stays { 0 < length events.old
         → StaysSo machine.old machine.new used.new result refusal.new }
+    // OK, REFUSED, EVENT, MORE, BAD_MACHINE
+    ensures statuses { (result ≡ 0) ⊎ (result ≡ 1) ⊎ (result ≡ 7) ⊎ (result ≡ 8) ⊎ (result ≡ 9) }
     ensures bad_machine { result ≡ BAD_MACHINE → (m : MachineView) → ¬ Holds machine.old m }
     ensures kept { result ≡ BAD_MACHINE → (machine.new ≡ machine.old)
         × (used.new ≡ 0) × (reported.new ≡ 0) }
@@ -162,7 +164,9 @@ fn take_events(
         × (result.used ≡ 0) × (machine.new ≡ machine.old)) }
     ensures unreported { drop result.reported events.new ≡ drop result.reported events.old }
     ensures unrefused { result.status ≢ REFUSED → refusal.new ≡ refusal.old }
-    ensures statuses { result.status ≢ BAD_MACHINE }
+    // OK, REFUSED, EVENT, MORE
+    ensures statuses { (result.status ≡ 0) ⊎ (result.status ≡ 1) ⊎ (result.status ≡ 7)
+        ⊎ (result.status ≡ 8) }
 {
     let mut used = 0;
     let mut reported = 0;

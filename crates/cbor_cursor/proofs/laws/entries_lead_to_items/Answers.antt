@@ -5,7 +5,7 @@ use Rattle.cbor_head.specs.declared.order.KeyOrder.{KeyOrder}
 use Rattle.cbor_cursor.specs.Index.{listed, placed, table, IsCanonicalItem}
 use Rattle.cbor_cursor.proofs.IndexEntries.{AreEntries, entries, entry_at, GoesOnAt, goes_on_at, StartsAt, starts_at}
 use Rattle.cbor_cursor.proofs.laws.entries_lead_to_items.Goals as goal
-use Rattle.cbor_cursor.proofs.IndexOwn.{definite_own, all_parts_own}
+use Rattle.cbor_cursor.{specs.Offsets.offsets_of, proofs.OneItem.same_result, proofs.IndexOwn.definite_own, proofs.IndexOwn.all_parts_own}
 
 table_entries : (o : KeyOrder) (s : Spelling) (bytes : List ℕ) → IsCanonicalItem o s bytes → IsValid (value_of s) → AreEntries o bytes (table 0 s)
 table_entries o s bytes c v =
@@ -14,6 +14,14 @@ table_entries o s bytes c v =
 
 pub returns-clause-item : goal.returns-clause-item
 returns-clause-item c = λ o s bytes i x own v at. let e = entry_at o bytes (table 0 s) i x (table_entries o s bytes own v) at in (e.value, e.rest, e.item)
+
+pub returns-clause-within : goal.returns-clause-within
+returns-clause-within c = λ o s bytes i x own v at. let e = entry_at o bytes (table 0 s) i x (table_entries o s bytes own v) at in e.bounds
+
+pub returns-clause-returned : goal.returns-clause-returned
+returns-clause-returned c = λ o s bytes i x r own v at item there inside.
+    let e = entry_at o bytes (table 0 s) i x (table_entries o s bytes own v) at in
+    same_result o bytes e.rest e.value (offsets_of x) r e.item e.bounds (item e.value e.rest e.item.starts) there inside
 
 pub returns-clause-first : goal.returns-clause-first
 returns-clause-first c = λ o s bytes i x own v at l.

@@ -3,7 +3,7 @@ use Rattle.cbor_head.specs.{Canonical.canonical, Value.Value, Value.map}
 use Rattle.theory_values.{specs.Pairs.pair_bytes, proofs.Sound.sound}
 use Rattle.cbor_cursor.proofs.lookup.find_item.Goals as goal
 use Rattle.cbor_cursor.proofs.PairsLeft.{found_key, no_key, value_offset}
-use Rattle.cbor_cursor.{specs.Offsets.IsItemAt, specs.Offsets.HasNoKeyBytes, proofs.Slices.each_case, proofs.Slices.some_with}
+use Rattle.cbor_cursor.{proofs.OneItem.well_formed_at, specs.Offsets.IsItemAt, specs.Offsets.HasNoKeyBytes, proofs.Slices.each_case, proofs.Slices.some_with}
 
 pub returns-in_err-value-clause-pair : goal.returns-in_err-value-clause-pair
 returns-in_err-value-clause-pair c = λ o es rest k a h g e.
@@ -24,3 +24,6 @@ returns-clause-any_key c = λ o es rest a.
     some_with (HasNoKeyBytes o es (c.args.head.now ++ c.args.payload.now)) c.item_at.result
     (λ i at there. record { stored = f.stored; value = f.value; has = f.has; key_is = f.key_is; before = f.before; after = f.after; pairs_are = f.pairs_are; offset_is = there ∙ p ∙ ap (λ (k : List ℕ). c.args.offset + length (flat_map pair_bytes f.before) + length k) f.key_is; item = at })
     (c.item_at.ensures.item o f.value _ f.begins) c.item_at.ensures.offset
+
+pub returns-clause-well_formed : goal.returns-clause-well_formed
+returns-clause-well_formed c = well_formed_at c.args.bytes.now c.in_ok-value.value c.item_at.result c.item_at.ensures.well_formed c.item_at.ensures.offset

@@ -1,3 +1,4 @@
+use Rattle.std.proofs.lemmas.Bool.{false≢true}
 use Rattle.cbor_reader.specs.WholeItem.{unread, trailing}
 use Rattle.naltvigo.proofs.checking.check_whole_item.Goals as goal
 use Rattle.naltvigo.proofs.WholeInputs.{is-whole}
@@ -23,3 +24,6 @@ returns-in-Err-clause-refused c = unread c.in-Err.ensures.refused c.in-Err.ensur
 pub returns-in-Err-clause-not_accepted : goal.returns-in-Err-clause-not_accepted
 returns-in-Err-clause-not_accepted c =
     λ h w. h (c.items_and_their_refusals.ensures.either _ c.args.input.now _ w (unread c.in-Err.ensures.refused c.in-Err.ensures.no_read))
+
+pub returns-in-Err-clause-own : goal.returns-in-Err-clause-own
+returns-in-Err-clause-own c = λ v begins. absurd (false≢true (c.in-Err.ensures.own v begins))

@@ -1,6 +1,7 @@
 -- `of_parts` moves two fields, and what they own goes with them.
 use Rattle.std.specs.Prelude.{Some}
-use mathlib.Core.Path.{refl, sym, subst}
+use Prim.Native.Nat.{ℕ}
+use mathlib.Core.Path.{◌≡◌, ◌∙◌, refl, sym, subst}
 use mathlib.Core.List.{List, [], ◌∷◌, ◌++◌}
 use seplogic.Ra.Ura.{Ura}
 use mir.Val.{Val}
@@ -18,6 +19,7 @@ use types.Part.{whole, sub, agg}
 use types.Run.{stop, fld, no_more, and_then, of_opd, returns, enter}
 use types.ByLocal.{alloc_all, pass_all, free_all, look_at, get, get_in, sets}
 use denote.Exit.{yes}
+use denote.RawPtr.{Ptr, block_ptr, null_ptr, InBlock}
 use denote.Signature.{type_at}
 use denote.Steps.{nothing}
 use denote.Triple.Spec.{triple_of}
@@ -30,6 +32,10 @@ use Rattle.cbor_checker.specs.contracts.checker.Checker.of_parts as F
 use Rattle.cbor_checker.specs.contracts.checker.Checker.of_parts.Key.{name as #self}
 use Rattle.cbor_checker.proofs.checker.Checker.of_parts.Statement as stated
 use Rattle.cbor_checker.proofs.checker.Checker.of_parts.Code as code
+
+-- a pointer into a block is not null
+in_block : (p : Ptr) (b o : ℕ) → p ≡ block_ptr b o → ¬ (p ≡ null_ptr)
+in_block p b o e = λ (null : p ≡ null_ptr). subst InBlock (sym e ∙ null) tt
 
 abbrev stayed : Stays (F.ended).signature.params (F.ended).kept
 stayed = (stay_dropped From yes, tt)
@@ -52,7 +58,7 @@ module _ {M : Type 1} {𝓤 : Ura M} (𝓛 : Logic 𝓤) (at_mem : Memory → SP
       (qed 𝓛 Γ ∵ enter ! 𝓣.C 𝓣.Λ code.function (w ∷ []) _ $ alloc_all ! (λ ls. pass_all ! refl (box_typed E hv b o fa, tt) $
       sets ! (of_opd ! (get_in ! (fld ! refl (stop !)) (sub ! 0 refl (whole !)))) refl (tt, tt) $ sets ! (of_opd ! (get_in ! (fld ! refl (stop !)) (sub ! 1 refl (whole !)))) refl fa $ sets ! (of_opd ! (get ! refl)) refl (tt, tt) $
       sets ! (agg ! (and_then ! (get ! refl) (and_then ! (get ! refl) (no_more !)))) refl (box_typed E hv b o fa) $ returns ! (look_at ! 0 refl) $ free_all ! refl $
-      suffices ! _ (ends_at 𝓛 F.ended stayed (F.clauses 𝓛 at_mem run) z w made (tt, tt) (tt, tt)) $ says ! refl $
+      suffices ! _ (ends_at 𝓛 F.ended stayed (F.clauses 𝓛 at_mem run) z w made (tt, tt) (tt, tt)) $ says ! (refl, in_block v.ptr b o e) $
       nothing ! $ nothing ! $ fjoin ! $ join ! $ nothing ! $ join ! $ done !))))
 
 pub of_parts_spec : {M : Type 1} → stated.statement M

@@ -1,0 +1,98 @@
+#!/usr/bin/env python3
+"""Checks that each call with a twin is one call of it. The twin records whether a request for memory was refused.
+
+    scripts/twins.py            prints each call with its twin, and what is wrong
+    scripts/twins.py --check    prints what is wrong; fails if something is
+
+The twin of NAME is NAME_in, of the same file or type, if it has a parameter of type `&mut Memory`. That of an export which
+docs/TRUST.md lists is the function in its file that its body calls. The body of the call passes a new `Memory` for each such
+parameter, and its own parameters for the others. What the twin's contract says of a new `Memory` then holds for the call. The
+prover does not check this: the contract of the call also allows a body that reports `Memory` without a request.
+"""
+
+import re
+import sys
+
+from proved import ROOT
+from ways import Sources
+
+# The calls that make their Memories in a `let` before the call. This one has two.
+IN_LET = ["same_meaning"]
+
+MEMORY = re.compile(r"&(?:'\w+ )?mut (?:\w+::)*Memory\b")
+SELF = re.compile(r"\(\s*&?(?:'\w+ )?(?:mut )?self\b")
+
+
+def squeezed(text):
+    """A text without spaces, and without a comma after the last argument."""
+    return re.sub(r"\s+", "", text).replace(",)", ")")
+
+
+def parameters(file, key):
+    """The parameters of a function in their order, without `self`: the name, and whether it is a `&mut Memory`."""
+    text = re.split(r"->|\b(?:requires|ensures|ghost)\b", re.sub(r"^\s*<[^(]*", "", file.heads[key]))[0]
+    return [(name, bool(MEMORY.match(of))) for name, of in re.findall(r"(\w+)\s*:(?!:)\s*([^,]*)", text)]
+
+
+def twins(sources):
+    """The calls with a twin by name: the file and the function, and those of the twin."""
+    for file in sources.files.values():
+        for (owner, name), head in file.heads.items():
+            key = (owner, name.removesuffix("_in"))
+            if key[1] != name and MEMORY.search(head):
+                holders = [it for it in sources.files.values() if it.crate == file.crate and key in it.bodies]
+                yield from ((it, key, file, (owner, name)) for it in ([file] if file in holders else holders))
+
+
+def listed():
+    """The exports that the document lists, up to a colon."""
+    text = (ROOT / "docs" / "TRUST.md").read_text(encoding="utf-8")
+    found = re.search(r"The same holds for \w+ exported functions for C,([^:]*):", text)
+    return re.findall(r"`(\w+)`", found[1] if found else "")
+
+
+def exports(sources):
+    """These exports, likewise. If a body does not begin with a function of its file, the twin is None."""
+    for key in ((None, name) for name in listed()):
+        for file in (it for it in sources.files.values() if it.crate == "naltvigo" and key in it.bodies):
+            called = (None, re.match(r"\{\s*(\w*)", file.bodies[key])[1])
+            yield file, key, file, called if called in file.bodies else None
+
+
+def fault(file, key, of, twin):
+    """What is wrong with the body of a call, or None."""
+    if not twin:
+        return "its body is not one call of a function in its file"
+    own, passed = parameters(file, key), parameters(of, twin)
+    memories = [name for name, is_memory in passed if is_memory]
+    if own != [it for it in passed if not it[1]] or not memories:
+        return f"its parameters are not those of {twin[1]} without the Memories"
+    if not re.search(r"\bensures request\b", of.heads[twin]):
+        return f"{twin[1]} has no clause `request`"
+    before, new = "", {it: "&mut Memory::new()" for it in memories}
+    if key[1] in IN_LET:
+        before = f"let (mut {', mut '.join(memories)}) = ({', '.join('Memory::new()' for _ in memories)}); "
+        new = {it: f"&mut {it}" for it in memories}
+    paths = ["self."] if SELF.search(file.heads[key]) else ["Self::", f"{key[0]}::"] if key[0] else [""]
+    call = f"{twin[1]}({', '.join(new.get(name, name) for name, _ in passed)})"
+    bodies = [f"{{ {before}{path}{call} }}" for path in paths]
+    return None if squeezed(file.bodies[key]) in map(squeezed, bodies) else f"its body is not {bodies[-1]}"
+
+
+def main():
+    sources = Sources()
+    by_name, by_list = list(twins(sources)), list(exports(sources))
+    faults = [] if by_name and by_list else ["there is no call with a twin, or no list of exports in docs/TRUST.md"]
+    faults += [f"{it} was not found" for it in {*IN_LET, *listed()} - {key[1] for _, key, _, _ in by_name + by_list}]
+    for file, key, of, twin in by_name + by_list:
+        if wrong := fault(file, key, of, twin):
+            faults.append(f"{file.path.relative_to(ROOT)}: {key[1]}: {wrong}")
+        elif "--check" not in sys.argv:
+            print(f"{file.crate}: {key[1]} is one call of {twin[1]}")
+    said = f"{len(by_name)} calls and {len(by_list)} exports are one call each. A `let` makes the Memories of: {', '.join(IN_LET)}"
+    print("\n".join(f"twins: {it}" for it in faults or [said]))
+    return 1 if faults else 0
+
+
+if __name__ == "__main__":
+    sys.exit(main())
