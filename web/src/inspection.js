@@ -63,7 +63,7 @@ export class Inspection {
         this.ends = [];
         this.refusal = undefined;
         this.notCanonical = undefined;
-        this.trace = new Trace(known);
+        this.trace = new Trace(known, bytes.length); // an event has at least one byte
     }
 
     /** `progress(task, offset)` is called now and then. */

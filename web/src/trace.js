@@ -13,24 +13,25 @@ const IS_WIDE = 16;
 const IS_KEY = 32;
 const IS_TEXT = 64;
 
-/** The columns of ROWS events. */
+/** The columns of this many events. */
 class Columns {
-    constructor() {
-        this.offset = new Uint32Array(ROWS);
-        this.depth = new Uint16Array(ROWS);
-        this.kind = new Uint8Array(ROWS);
-        this.flags = new Uint8Array(ROWS);
-        this.name = new Uint8Array(ROWS);
-        this.number = new Float64Array(ROWS);
+    constructor(count) {
+        this.offset = new Uint32Array(count);
+        this.depth = new Uint16Array(count);
+        this.kind = new Uint8Array(count);
+        this.flags = new Uint8Array(count);
+        this.name = new Uint8Array(count);
+        this.number = new Float64Array(count);
         /** The same cells, for the numbers that are not safe integers. */
         this.wide = new BigUint64Array(this.number.buffer);
     }
 }
 
 export class Trace {
-    /** `known` is what is known of each item (names.js). */
-    constructor(known) {
+    /** For at most `most` events. `known` is what is known of each item (names.js). */
+    constructor(known, most) {
         this.count = 0;
+        this.most = most;
         /** The offset after the last event. */
         this.end = 0;
         this.columns = [];
@@ -43,7 +44,7 @@ export class Trace {
         const { nesting } = this, { kind, number, width } = event, offset = start + event.offset;
         const end = offset + (kind === 'piece' ? Number(number) : 1 + (width ?? 0));
         const at = this.count & ROWS - 1;
-        if (at === 0) this.columns.push(new Columns());
+        if (at === 0) this.columns.push(new Columns(Math.min(ROWS, this.most - this.count)));
         const columns = this.columns[this.columns.length - 1];
         columns.offset[at] = offset;
         columns.depth[at] = nesting.depthOf(kind);

@@ -4,7 +4,7 @@ import { readFile } from 'node:fs/promises';
 import { test } from 'node:test';
 import { load } from '../../bindings/js/src/load.js';
 import { chosenIntegers, harmlessIntegers } from '../../bindings/js/tests/chosen_keys.mjs';
-import { leastTime, millisecond } from '../../bindings/js/tests/times.mjs';
+import { beyond, leastOf, leastTime, millisecond } from '../../bindings/js/tests/times.mjs';
 import { bytesOfText } from '../src/bytes.js';
 import { Inspection } from '../src/inspection.js';
 import { linkOf, ofLink, USUAL } from '../src/link.js';
@@ -371,12 +371,13 @@ test('JSON and diagnostic notation get a sentence that says what to paste', () =
 
 // ---- time
 
-/** The least time of an inspection and its first page, in milliseconds. */
-const timeOf = (bytes, turns) => leastTime(() => {
+/** An inspection whose first page was made. */
+function inspect(bytes) {
     const inspection = new Inspection(naltvigo, bytes, { ...OPTIONS, depth: 1024 });
     inspection.run(() => {});
     new Rows(inspection).page(0, 200);
-}, turns);
+    return inspection;
+}
 
 /** A map of these keys, in bytes, each with the value 0. */
 const mapOf = keys => Buffer.concat([Buffer.of(0xba), uint32(keys.length), ...keys.flatMap(key => [key, Buffer.of(0)])]);
@@ -393,29 +394,38 @@ test('1 MiB of chosen keys takes at most 5 times as long as 1 MiB of harmless on
         'keys in keys': mapOf(numbers(size / 512).map(i => Buffer.concat([Buffer.alloc(250, 0xa1), integer(i), Buffer.alloc(250)]))),
         'deep values': Buffer.concat([Buffer.of(0x9f), ...numbers(size / 2001).map(() => Buffer.from('a100'.repeat(1000) + '00', 'hex')), Buffer.of(0xff)]),
     };
+    const timeOfByte = bytes => leastTime(() => inspect(bytes), 2) / bytes.length;
     for (const [name, bytes] of Object.entries(families)) {
-        let ratio = Infinity;
-        for (let i = 0; i < 5 && ratio > 5; i++) ratio = Math.min(ratio, timeOf(bytes, 2) / bytes.length / (timeOf(harmless, 2) / harmless.length));
+        const ratio = leastOf(() => timeOfByte(bytes) / timeOfByte(harmless), 5);
         assert.ok(ratio <= 5, `${name}: ${ratio} times as long`);
     }
 });
 
+const pairs = (count, ...bytes) => Buffer.concat(Array(count).fill(Buffer.from(bytes)));
+const KIBIBYTES = {
+    arrays: Buffer.concat([Buffer.alloc(1000, 0x81), Buffer.of(0)]),
+    tags: Buffer.concat([Buffer.alloc(1000, 0xc1), Buffer.of(0)]),
+    values: Buffer.concat([pairs(500, 0xa1, 0), Buffer.of(0)]),
+    keys: Buffer.concat([Buffer.alloc(500, 0xa1), Buffer.alloc(501)]),
+    members: Buffer.concat([Buffer.of(0x9f), Buffer.alloc(1000), Buffer.of(0xff)]),
+    integers: mapOf(chosenIntegers(169).map(integer)),
+    chunks: Buffer.concat([Buffer.of(0x5f), pairs(500, 0x41, 0), Buffer.of(0xff)]),
+};
+
 test('no item of 1 KiB takes more than a millisecond beyond its check', () => {
-    const pairs = (count, ...bytes) => Buffer.concat(Array(count).fill(Buffer.from(bytes)));
-    const items = {
-        arrays: Buffer.concat([Buffer.alloc(1000, 0x81), Buffer.of(0)]),
-        tags: Buffer.concat([Buffer.alloc(1000, 0xc1), Buffer.of(0)]),
-        values: Buffer.concat([pairs(500, 0xa1, 0), Buffer.of(0)]),
-        keys: Buffer.concat([Buffer.alloc(500, 0xa1), Buffer.alloc(501)]),
-        members: Buffer.concat([Buffer.of(0x9f), Buffer.alloc(1000), Buffer.of(0xff)]),
-        integers: mapOf(chosenIntegers(169).map(integer)),
-        chunks: Buffer.concat([Buffer.of(0x5f), pairs(500, 0x41, 0), Buffer.of(0xff)]),
-    };
-    for (const [name, bytes] of Object.entries(items)) {
+    for (const [name, bytes] of Object.entries(KIBIBYTES)) {
         assert.ok(bytes.length <= 1024 && bytes.length >= 1000);
-        timeOf(bytes, 20); // compiled before it is measured
-        const check = leastTime(() => naltvigo.check(bytes, { depth: 1024 }), 100);
-        const beyond = timeOf(bytes, 100) - check;
-        assert.ok(beyond <= millisecond(naltvigo.check), `${name}: ${beyond} ms beyond its check, ${check} ms`);
+        for (let i = 0; i < 20; i++) inspect(bytes); // compiled before it is measured
+        const most = millisecond(naltvigo.check), time = beyond(() => inspect(bytes), () => naltvigo.check(bytes, { depth: 1024 }), most);
+        assert.ok(time <= most, `${name}: ${time} ms beyond its check`);
+    }
+});
+
+test('an input has space for as many events as it has bytes, and all events fit', () => {
+    const items = Object.values(KIBIBYTES), large = Buffer.concat([Buffer.of(0x9f), Buffer.alloc(200000), Buffer.of(0xff)]);
+    const refused = items.map(bytes => bytes.subarray(0, -1));
+    for (const bytes of [Buffer.of(), Buffer.of(0x40), ...items, ...refused, Buffer.concat(items), Buffer.concat([...items, ...refused]), large]) {
+        const { columns, count } = inspect(bytes).trace, space = columns.reduce((sum, { offset }) => sum + offset.length, 0);
+        assert.ok(count <= space && space <= bytes.length, `${count} events, ${space} rows, ${bytes.length} bytes`);
     }
 });

@@ -9,7 +9,7 @@ import { hasMemory64, load } from 'naltvigo/load';
 import { chosenIntegers, harmlessIntegers } from './chosen_keys.mjs';
 import { resultOf, bytes, rows } from './given.mjs';
 import { limitedMemory } from './limited_memory.mjs';
-import { leastTime, millisecond, ratioOf } from './times.mjs';
+import { beyond, leastTime, millisecond, ratioOf } from './times.mjs';
 
 const wasm = readFileSync(new URL(`../wasm/naltvigo${hasMemory64() ? 64 : 32}.wasm`, import.meta.url));
 const LARGE = { maxBytes: 1 << 24, depth: 1024 };
@@ -74,8 +74,8 @@ test('no item of 1 KiB takes more than a millisecond beyond its check', () => {
     for (const data of kibibytes()) {
         assert.ok(data.length <= 1024);
         decode(data, LARGE); // compiled before it is measured
-        const beyond = leastTime(() => decode(data, LARGE), 200) - leastTime(() => checkCanonical(data, LARGE), 200);
-        assert.ok(beyond <= millisecond(checkCanonical), `${Buffer.from(data.subarray(0, 20)).toString('hex')}..: ${beyond} ms`);
+        const most = millisecond(checkCanonical), time = beyond(() => decode(data, LARGE), () => checkCanonical(data, LARGE), most);
+        assert.ok(time <= most, `${Buffer.from(data.subarray(0, 20)).toString('hex')}..: ${time} ms`);
     }
 });
 

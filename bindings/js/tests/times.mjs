@@ -18,15 +18,18 @@ export function leastTime(call, turns = 3) {
     return least;
 }
 
-/**
- * How many times as long as the other a call takes; the least of some attempts, since other processes hold the processor. One
- * that is no more than `enough` is the last.
- */
-export function ratioOf(call, other, enough = 5) {
-    let ratio = Infinity;
-    for (let attempt = 0; attempt < 4 && ratio > enough; attempt++) ratio = Math.min(ratio, leastTime(call) / leastTime(other));
-    return ratio;
+/** The least of some attempts to measure, since other processes hold the processor. One that is no more than `enough` is the last. */
+export function leastOf(measure, enough) {
+    let least = Infinity;
+    for (let attempt = 0; attempt < 5 && least > enough; attempt++) least = Math.min(least, measure());
+    return least;
 }
+
+/** How many times as long as the other a call takes. */
+export const ratioOf = (call, other, enough = 5) => leastOf(() => leastTime(call) / leastTime(other), enough);
+
+/** How many milliseconds longer than the other a call takes. */
+export const beyond = (call, other, enough) => leastOf(() => leastTime(call, 100) - leastTime(other, 100), enough);
 
 /** A millisecond; or on a slower processor, what takes one here: 100 checks of 1,000 arrays. In milliseconds. */
 export function millisecond(check) {
