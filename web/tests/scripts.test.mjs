@@ -424,6 +424,7 @@ test('no item of 1 KiB takes more than a millisecond beyond its check', () => {
 test('an input has space for as many events as it has bytes, and all events fit', () => {
     const items = Object.values(KIBIBYTES), large = Buffer.concat([Buffer.of(0x9f), Buffer.alloc(200000), Buffer.of(0xff)]);
     const refused = items.map(bytes => bytes.subarray(0, -1));
+    for (const bytes of [KIBIBYTES.members, KIBIBYTES.chunks, large]) assert.equal(inspect(bytes).trace.count, bytes.length);
     for (const bytes of [Buffer.of(), Buffer.of(0x40), ...items, ...refused, Buffer.concat(items), Buffer.concat([...items, ...refused]), large]) {
         const { columns, count } = inspect(bytes).trace, space = columns.reduce((sum, { offset }) => sum + offset.length, 0);
         assert.ok(count <= space && space <= bytes.length, `${count} events, ${space} rows, ${bytes.length} bytes`);

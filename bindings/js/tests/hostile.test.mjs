@@ -9,7 +9,7 @@ import { hasMemory64, load } from 'naltvigo/load';
 import { chosenIntegers, harmlessIntegers } from './chosen_keys.mjs';
 import { resultOf, bytes, rows } from './given.mjs';
 import { limitedMemory } from './limited_memory.mjs';
-import { beyond, leastTime, millisecond, ratioOf } from './times.mjs';
+import { beyond, millisecond, ratioOf } from './times.mjs';
 
 const wasm = readFileSync(new URL(`../wasm/naltvigo${hasMemory64() ? 64 : 32}.wasm`, import.meta.url));
 const LARGE = { maxBytes: 1 << 24, depth: 1024 };
