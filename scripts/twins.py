@@ -16,9 +16,6 @@ import sys
 from proved import ROOT
 from ways import Sources
 
-# The calls that make their Memories in a `let` before the call. This one has two.
-IN_LET = ["same_meaning"]
-
 MEMORY = re.compile(r"&(?:'\w+ )?mut (?:\w+::)*Memory\b")
 SELF = re.compile(r"\(\s*&?(?:'\w+ )?(?:mut )?self\b")
 
@@ -69,13 +66,10 @@ def fault(file, key, of, twin):
         return f"its parameters are not those of {twin[1]} without the Memories"
     if not re.search(r"\bensures request\b", of.heads[twin]):
         return f"{twin[1]} has no clause `request`"
-    before, new = "", {it: "&mut Memory::new()" for it in memories}
-    if key[1] in IN_LET:
-        before = f"let (mut {', mut '.join(memories)}) = ({', '.join('Memory::new()' for _ in memories)}); "
-        new = {it: f"&mut {it}" for it in memories}
+    new = {it: "&mut Memory::new()" for it in memories}
     paths = ["self."] if SELF.search(file.heads[key]) else ["Self::", f"{key[0]}::"] if key[0] else [""]
     call = f"{twin[1]}({', '.join(new.get(name, name) for name, _ in passed)})"
-    bodies = [f"{{ {before}{path}{call} }}" for path in paths]
+    bodies = [f"{{ {path}{call} }}" for path in paths]
     return None if squeezed(file.bodies[key]) in map(squeezed, bodies) else f"its body is not {bodies[-1]}"
 
 
@@ -83,13 +77,13 @@ def main():
     sources = Sources()
     by_name, by_list = list(twins(sources)), list(exports(sources))
     faults = [] if by_name and by_list else ["there is no call with a twin, or no list of exports in docs/TRUST.md"]
-    faults += [f"{it} was not found" for it in {*IN_LET, *listed()} - {key[1] for _, key, _, _ in by_name + by_list}]
+    faults += [f"{it} was not found" for it in set(listed()) - {key[1] for _, key, _, _ in by_name + by_list}]
     for file, key, of, twin in by_name + by_list:
         if wrong := fault(file, key, of, twin):
             faults.append(f"{file.path.relative_to(ROOT)}: {key[1]}: {wrong}")
         elif "--check" not in sys.argv:
             print(f"{file.crate}: {key[1]} is one call of {twin[1]}")
-    said = f"{len(by_name)} calls and {len(by_list)} exports are one call each. A `let` makes the Memories of: {', '.join(IN_LET)}"
+    said = f"{len(by_name)} calls and {len(by_list)} exports are one call each"
     print("\n".join(f"twins: {it}" for it in faults or [said]))
     return 1 if faults else 0
 

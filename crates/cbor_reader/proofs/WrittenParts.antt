@@ -1,7 +1,7 @@
 -- The parts of a value are an encoding of it.
 use Rattle.std.proofs.Common.{◌≡◌, ℕ, suc, ◌≤◌, List, ◌++◌, length, inl, inr, refl, sym, ap, ap₂, ◌∙◌, subst, arith, append-nil}
 use Rattle.cbor_head.specs.Value as value
-use Rattle.cbor_head.specs.Prelude.{Bounds, shortest, head, break_of, Value, Values, Entries, values_count, IsInRange, AreInRange, AreEntriesInRange, IsValid, AreValid, AreEntriesValid, HasBasicKeys, Spelling, Spellings, SpelledEntries, unsigned, negative, bytes, text, array, a_map, tag, simple, no_spellings, a_spelling, no_entries, entry, IsSpelled, AreSpelled, AreEntriesSpelled, spell, spell_all, spell_entries, spellings_count, entries_count, value_of, values_of, entries_of, depth}
+use Rattle.cbor_head.specs.Prelude.{Bounds, shortest, head, break_of, Value, Values, Entries, values_count, IsInRange, AreInRange, AreEntriesInRange, IsValid, AreValid, AreEntriesValid, HasBasicKeys, Spelling, Spellings, SpelledEntries, unsigned, negative, bytes, text, array, a_map, tag, simple, no_spellings, a_spelling, no_entries, entry, IsSpelled, AreSpelled, AreEntriesSpelled, spell, spell_all, spell_entries, spellings_count, entries_count, value_of, values_of, entries_of}
 use Rattle.cbor_head.specs.declared.major.Major.TheVariants as majors
 use Rattle.cbor_head.specs.Prelude.{plain}
 use Rattle.cbor_head.specs.declared.{major.Major.Major, keys.Keys.TheVariants.IntegersAndTexts}

@@ -58,10 +58,9 @@ pub fn same_meaning(
         → IsWholeItem limits left.now
         → ¬ IsWholeItem limits right.now) }
 {
-    let (mut left_memory, mut right_memory) = (Memory::new(), Memory::new());
     same_meaning_in(
-        &mut left_memory,
-        &mut right_memory,
+        &mut Memory::new(),
+        &mut Memory::new(),
         alloc,
         left,
         right,

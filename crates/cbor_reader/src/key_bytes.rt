@@ -1,9 +1,10 @@
 //! The canonical bytes of the keys of an item, and of nothing else.
 
-ghost use Rattle.std.specs.Prelude.{◌≡◌, ◌<◌, [], false, IfOk, IfSome, IsNone, IsTrue, OnOk, OnErr};
+ghost use Rattle.std.specs.Prelude.{◌≡◌, ◌<◌, ◌≤◌, [], false, IfOk, IfSome, IsNone, IsTrue, OnOk, OnErr, length, take};
+ghost use Rattle.theory_values.specs.Parts.{give};
 ghost use Rattle.cbor_builder.specs.Built.{built, TakesPart};
 ghost use Rattle.theory_verdicts.specs.Levels.{item_expected};
-ghost use Rattle.cbor_reader.specs.inner.KeyBytes.{is_kept, after_item, keys_agree, keys_hold, keys_refused};
+ghost use Rattle.cbor_reader.specs.inner.KeyBytes.{is_kept, after_item, string_bytes, keys_agree, keys_hold, keys_refused};
 ghost use Rattle.cbor_reader.specs.declared.key_bytes.KeyBytes.{KeyBytes};
 ghost use Rattle.cbor_parser.specs.Sink.{IsContainerFull, Ends, Repeats};
 
@@ -57,7 +58,7 @@ impl KeyBytes {
     }
 
     // An item is complete. It is a key if no container within a key is open; its value is not stored.
-    // Not inlined, as the next function, so that the walk's loop stays small enough to be one
+    // Not inlined, like the two functions below, so that the walk's loop stays small enough to be one
     // function.
     #[inline(never)]
     fn settle(&mut self) -> Result<(), AllocError>
@@ -71,6 +72,24 @@ impl KeyBytes {
             self.builder.nothing()?;
         }
         Ok(())
+    }
+
+    // Stores a string, which is a key or within one.
+    #[inline(never)]
+    fn store_string(&mut self, is_text: bool, prefix: &[u8], count: usize) -> Result<(), AllocError>
+        requires within { count ≤ length prefix.now }
+        requires takes { TakesPart self.old.builder.open_levels }
+        requires key { self.old.inside ≡ 0 → TakesPart
+            (give (string_bytes is_text (take count prefix.now)) self.old.builder.open_levels) }
+        ensures inside { self.new.inside ≡ self.old.inside }
+        ensures builder { OnOk result (self.new.builder ≡ built self.old.builder.order
+            (after_item self.old.inside (give (string_bytes is_text (take count prefix.now))
+            self.old.builder.open_levels))) }
+        ensures memory { OnErr result (IsTrue self.new.builder.refused) }
+    {
+        self.builder
+            .prefix_string(string_type(is_text), prefix, count)?;
+        self.settle()
     }
 
     // Ends a container within a key, as the sink of canonical bytes does.
@@ -123,9 +142,7 @@ impl<'a> Sink<'a> for KeyBytes {
         count: usize,
     ) -> Result<(), AllocError> {
         if self.keeps(is_key) {
-            self.builder
-                .prefix_string(string_type(is_text), prefix, count)?;
-            self.settle()?;
+            self.store_string(is_text, prefix, count)?;
         }
         Ok(())
     }

@@ -1,7 +1,7 @@
 -- The canonical bytes of keys alone: which parts of an item are stored, and what the builder gets
 -- of them.
-use Rattle.std.specs.Prelude.{ℕ, zero, suc, ◌≡◌, ◌||◌, ◌++◌, if◌then◌else◌, Bool, true, false, List, [], ◌∷◌}
-use Rattle.cbor_head.specs.{Prelude.Pair, declared.order.KeyOrder.KeyOrder}
+use Rattle.std.specs.Prelude.{ℕ, zero, suc, ◌≡◌, ◌||◌, ◌++◌, if◌then◌else◌, Bool, true, false, List, [], ◌∷◌, length}
+use Rattle.cbor_head.specs.{Prelude.Pair, Prelude.shortest_head, declared.order.KeyOrder.KeyOrder}
 use Rattle.theory_values.specs.Parts.{Open, plain, a_map, a_key, a_string, pair, give}
 use Rattle.theory_verdicts.specs.Levels.{Level, ParseState, item_expected, item_full, item_whole}
 use Rattle.theory_verdicts.specs.{Given.level_open, Given.IsFull, Reading.string_major}
@@ -54,6 +54,10 @@ inside (l ∷ ls) = one_more (in_key ls) (inside ls)
 abbrev pub is_kept : ℕ → Bool → Bool
 is_kept zero is_key = is_key
 is_kept (suc n) is_key = true
+
+-- a string, by its content
+abbrev pub string_bytes : Bool → List ℕ → List ℕ
+string_bytes is_text content = shortest_head (string_major is_text) (length content) ++ content
 
 -- a key that is complete gets a value of no bytes
 abbrev pub after_item : ℕ → List Open → List Open

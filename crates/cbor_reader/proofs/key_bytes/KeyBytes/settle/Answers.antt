@@ -1,4 +1,4 @@
-use Rattle.std.proofs.Common.{◌≡◌, ℕ, zero, suc, List, false, refl}
+use Rattle.std.proofs.Common.{◌≡◌, ℕ, zero, suc, List, refl}
 use Rattle.theory_values.specs.Parts.{Open}
 use Rattle.cbor_reader.proofs.key_bytes.KeyBytes.settle.Goals as goal
 use Rattle.cbor_reader.specs.inner.KeyBytes.{after_item}
