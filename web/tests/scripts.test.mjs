@@ -410,13 +410,14 @@ const KIBIBYTES = {
     members: Buffer.concat([Buffer.of(0x9f), Buffer.alloc(1000), Buffer.of(0xff)]),
     integers: mapOf(chosenIntegers(169).map(integer)),
     chunks: Buffer.concat([Buffer.of(0x5f), pairs(500, 0x41, 0), Buffer.of(0xff)]),
+    'strings that hold no item': Buffer.concat([Buffer.of(0x9f), pairs(500, 0x41, 0xff), Buffer.of(0xff)]),
 };
 
-test('no item of 1 KiB takes more than a millisecond beyond its check', () => {
+test('no item of 1 KiB takes more than five milliseconds beyond its check', () => {
     for (const [name, bytes] of Object.entries(KIBIBYTES)) {
         assert.ok(bytes.length <= 1024 && bytes.length >= 1000);
         for (let i = 0; i < 20; i++) inspect(bytes); // compiled before it is measured
-        const most = millisecond(naltvigo.check), time = beyond(() => inspect(bytes), () => naltvigo.check(bytes, { depth: 1024 }), most);
+        const most = 5 * millisecond(naltvigo.check), time = beyond(() => inspect(bytes), () => naltvigo.check(bytes, { depth: 1024 }), most);
         assert.ok(time <= most, `${name}: ${time} ms beyond its check`);
     }
 });

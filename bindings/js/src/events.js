@@ -45,5 +45,6 @@ function* eventsIn(machine, chunk) {
 
 function withData(piece, chunk, begin) {
     const at = piece.offset - begin;
-    return { ...piece, data: chunk.subarray(at, at + piece.number) };
+    piece.data = chunk.subarray(at, at + piece.number);
+    return piece;
 }
