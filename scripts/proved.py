@@ -8,6 +8,7 @@ There are two documents because a contract is proved, and a sentence of document
 
 import re
 import sys
+from itertools import takewhile
 from pathlib import Path
 
 ROOT = Path(__file__).resolve().parent.parent
@@ -19,10 +20,10 @@ Written by `scripts/docs.sh` from the sources. This page has the contract of eac
 [CONTRACTS.md](CONTRACTS.md) explains the notation. Each contract is proved for every input that meets its `requires`. It
 is also proved that each call is safe and returns. For a call without a clause nothing else is proved.
 
-The table after the contracts of a crate explains the words of its `specs/` that contracts use. The explanation is the
-comment of the definition. What counts is the definition itself: [READING.md](READING.md) lists the definitions in the
-order in which to read them. [CALLS.md](CALLS.md) has the documentation of the calls, and [TRUST.md](TRUST.md) says what
-no contract states.
+After the contracts of a crate are the records of its `specs/` that contracts use. A field of a record is a clause, or a part
+of a value. The table after them explains the words of `specs/` that contracts use. The explanation is the comment of the
+definition. What counts is the definition itself: [READING.md](READING.md) lists the definitions in the order in which to
+read them. [CALLS.md](CALLS.md) has the documentation of the calls, and [TRUST.md](TRUST.md) says what no contract states.
 
 A call that allocates may return the reason `Memory`, one that reads `Read`, and one that writes `Write`. Unless a clause
 excludes it, expect that at any time.
@@ -94,19 +95,27 @@ def public_of(crate):
     return names, {name for name in re.findall(r"pub mod (\w+);", text) if name != "inner"}
 
 
+def record_at(lines, place):
+    """The record that begins at this line, as text; nothing if the line begins another definition."""
+    if not lines[place].startswith("pub record "):
+        return ""
+    fields = takewhile(lambda line: line.startswith("  "), lines[place + 1 :])
+    return "\n".join([lines[place].removeprefix("pub "), *(line.replace("  pub ", "  ", 1) for line in fields)])
+
+
 def definitions_of(crate):
-    """The definitions in a crate's specs except specs/inner, in order: name to file and comment."""
+    """The definitions in a crate's specs except specs/inner, in order: name to file, comment, and the text of a record."""
     found = {}
     for path in sorted((CRATES / crate / "specs").glob("*.antt")):
-        comment = []
-        for line in path.read_text(encoding="utf-8").splitlines()[1:]:
+        comment, lines = [], path.read_text(encoding="utf-8").splitlines()[1:]
+        for place, line in enumerate(lines):
             stripped = line.strip()
             if stripped.startswith("--"):
                 comment.append(stripped.lstrip("- "))
                 continue
             match = re.match(r"(?:abbrev |unfoldable )?pub (?:record |data )?([^\s:(){}]+)", stripped)
             if match and not line.startswith("  ") and match[1] not in ("mod", "use"):
-                found[match[1]] = (path.stem, " ".join(comment))
+                found[match[1]] = (path.stem, " ".join(comment), record_at(lines, place))
             comment = []
     return found
 
@@ -189,7 +198,10 @@ def contracts_of(crate, words, calls, reached):
     lines = [f"## `{crate}`", ""]
     if calls:
         lines += ["```text", "\n\n".join(call.contract() for call in calls), "```", ""]
-    explained = [(word, *words[word]) for word in words if (crate, word) in reached and words[word][1]]
+    cited = [(word, *words[word]) for word in words if (crate, word) in reached]
+    if records := [text for _, _, _, text in cited if text]:
+        lines += ["```text", "\n\n".join(records), "```", ""]
+    explained = [(word, file, comment) for word, file, comment, _ in cited if comment]
     if explained:
         lines += ["| Word | In `specs/` | Meaning |", "|---|---|---|"]
         lines += [f"| `{word}` | {file} | {first_sentence(comment)} |".replace("\\", "\\\\") for word, file, comment in explained]

@@ -4,10 +4,10 @@
     scripts/twins.py            prints each call with its twin, and what is wrong
     scripts/twins.py --check    prints what is wrong; fails if something is
 
-The twin of NAME is NAME_in, of the same file or type, if it has a parameter of type `&mut Memory`. That of an export which
-docs/TRUST.md lists is the function in its file that its body calls. The body of the call passes a new `Memory` for each such
-parameter, and its own parameters for the others. What the twin's contract says of a new `Memory` then holds for the call. The
-prover does not check this: the contract of the call also allows a body that reports `Memory` without a request.
+A twin of NAME is NAME_in with a parameter `&mut Memory`, in the same file or type. For an export, it is a function of its file
+with such a parameter, with which its body begins; docs/TRUST.md lists these exports. The body of the call passes a new `Memory`
+for each such parameter, and its own parameters for the others. What the twin's contract says of a new `Memory` then holds for the
+call. The prover does not check this: the contract of the call also allows a body that reports `Memory` without a request.
 """
 
 import re
@@ -32,39 +32,40 @@ def parameters(file, key):
 
 
 def twins(sources):
-    """The calls with a twin by name: the file and the function, and those of the twin."""
+    """The calls with a twin by name: the file and the function, and those of the twin. A twin without a call has no file."""
     for file in sources.files.values():
         for (owner, name), head in file.heads.items():
             key = (owner, name.removesuffix("_in"))
             if key[1] != name and MEMORY.search(head):
                 holders = [it for it in sources.files.values() if it.crate == file.crate and key in it.bodies]
-                yield from ((it, key, file, (owner, name)) for it in ([file] if file in holders else holders))
+                yield from ((it, key, file, (owner, name)) for it in ([file] if file in holders else holders or [None]))
 
 
 def listed():
-    """The exports that the document lists, up to a colon."""
+    """The exports that the document lists."""
     text = (ROOT / "docs" / "TRUST.md").read_text(encoding="utf-8")
-    found = re.search(r"The same holds for \w+ exported functions for C,([^:]*):", text)
+    found = re.search(r"exports\s+for\s+C:([^.]*)\.", text)
     return re.findall(r"`(\w+)`", found[1] if found else "")
 
 
 def exports(sources):
-    """These exports, likewise. If a body does not begin with a function of its file, the twin is None."""
-    for key in ((None, name) for name in listed()):
-        for file in (it for it in sources.files.values() if it.crate == "naltvigo" and key in it.bodies):
+    """The exports with a twin, likewise."""
+    for file in (it for it in sources.files.values() if it.crate == "naltvigo"):
+        for key in (it for it in file.bodies if it[1].endswith("_raw")):
             called = (None, re.match(r"\{\s*(\w*)", file.bodies[key])[1])
-            yield file, key, file, called if called in file.bodies else None
+            if MEMORY.search(file.heads.get(called, "")):
+                yield file, key, file, called
 
 
 def fault(file, key, of, twin):
     """What is wrong with the body of a call, or None."""
-    if not twin:
-        return "its body is not one call of a function in its file"
+    if not file:
+        return f"there is no {key[1]} for it"
     own, passed = parameters(file, key), parameters(of, twin)
     memories = [name for name, is_memory in passed if is_memory]
     if own != [it for it in passed if not it[1]] or not memories:
         return f"its parameters are not those of {twin[1]} without the Memories"
-    if not re.search(r"\bensures request\b", of.heads[twin]):
+    if not re.search(r"\bensures request\s*\{[^}]*\bIsTrue\b", of.heads[twin]):
         return f"{twin[1]} has no clause `request`"
     new = {it: "&mut Memory::new()" for it in memories}
     paths = ["self."] if SELF.search(file.heads[key]) else ["Self::", f"{key[0]}::"] if key[0] else [""]
@@ -76,11 +77,12 @@ def fault(file, key, of, twin):
 def main():
     sources = Sources()
     by_name, by_list = list(twins(sources)), list(exports(sources))
-    faults = [] if by_name and by_list else ["there is no call with a twin, or no list of exports in docs/TRUST.md"]
-    faults += [f"{it} was not found" for it in set(listed()) - {key[1] for _, key, _, _ in by_name + by_list}]
+    faults = [] if by_name and by_list else ["no call, or no export, has a twin"]
+    found = {key[1] for _, key, _, _ in by_list}
+    faults += [f"docs/TRUST.md does not list {it}, or it is not one call" for it in sorted(found ^ set(listed()))]
     for file, key, of, twin in by_name + by_list:
         if wrong := fault(file, key, of, twin):
-            faults.append(f"{file.path.relative_to(ROOT)}: {key[1]}: {wrong}")
+            faults.append(f"{of.path.relative_to(ROOT)}: {twin[1] if not file else key[1]}: {wrong}")
         elif "--check" not in sys.argv:
             print(f"{file.crate}: {key[1]} is one call of {twin[1]}")
     said = f"{len(by_name)} calls and {len(by_list)} exports are one call each"

@@ -5,8 +5,7 @@ use Rattle.theory_values.specs.Parts.{give}
 use Rattle.cbor_builder.specs.Built.{Built, built, TakesPart}
 use Rattle.theory_verdicts.specs.Reading.{string_major}
 use Rattle.cbor_reader.proofs.key_bytes.KeyBytes.store_string.Goals as goal
-use Rattle.cbor_reader.proofs.key_bytes.KeyBytes.store_string.Goals.{In_ok-prefix_string}
-use Rattle.cbor_reader.specs.inner.KeyBytes.{after_item, string_bytes}
+use Rattle.cbor_reader.{proofs.key_bytes.KeyBytes.store_string.Goals.In_ok-prefix_string, specs.inner.KeyBytes.after_item, specs.inner.KeyBytes.string_bytes}
 
 stored : (c : In_ok-prefix_string) → c.prefix_string.new.self ≡ built c.args.self.now.builder.order (give (string_bytes c.args.is_text (take c.args.count c.args.prefix.now)) c.args.self.now.builder.open_levels)
 stored c =

@@ -1,11 +1,10 @@
 use Rattle.std.proofs.Common.{◌∙◌, List, ℕ, refl, sym, take}
-use Rattle.cbor_builder.specs.Built.{built}
 use Rattle.theory_values.specs.Parts.{give}
+use Rattle.cbor_builder.specs.Built.{built}
 use Rattle.cbor_parser.proofs.CanonGiven.{string-bytes}
 use Rattle.cbor_reader.proofs.KeysGiven.{takes, key-takes, given-kept, given-left}
 use Rattle.cbor_reader.proofs.key_bytes.KeyBytesSink.string.Goals as goal
-use Rattle.cbor_reader.proofs.key_bytes.KeyBytesSink.string.Goals.{Start}
-use Rattle.cbor_reader.specs.inner.KeyBytes.{string_bytes}
+use Rattle.cbor_reader.{proofs.key_bytes.KeyBytesSink.string.Goals.Start, specs.inner.KeyBytes.string_bytes}
 
 abbrev bytes : Start → List ℕ
 bytes c = string_bytes c.args.is_text (take c.args.count c.args.prefix.now)
